@@ -5,8 +5,7 @@ mod odds;
 mod options;
 mod table;
 
-ghost use Rattle.std.specs.Prelude.{◌≡◌, ◌<◌, ◌-◌, false, true, map, IfOk, Some};
-ghost use Rattle.std.specs.String.{string_bytes};
+ghost use Rattle.std.specs.{Prelude.{◌≡◌, ◌<◌, ◌-◌, false, true, map, IfOk, Some}, String.{string_bytes}};
 ghost use Rattle.clap.specs.Words.{kind_of};
 ghost use Rattle.cml_arguments.specs.Words.{explains, until_named, AnswersError, AnswersTask, IsAnswer};
 

@@ -1,9 +1,7 @@
 //! What is said of the options of a command that can't be used together.
 
-ghost use Rattle.std.specs.Prelude.{◌≡◌, ◌↔◌, ◌<◌, ◌-◌, false, is_some, option_map, IfOk, IsTrue, List, MatchOption, Some, ℕ};
-ghost use Rattle.std.specs.Char.{is_ascii_digit};
-ghost use Rattle.std.specs.List.{list_all};
-ghost use Rattle.std.specs.String.{string_bytes};
+ghost use Rattle.std.specs.{Prelude.{◌≡◌, ◌↔◌, ◌<◌, ◌-◌, false, is_some, option_map, IfOk, IsTrue, List, MatchOption, Some, ℕ}, Char.{is_ascii_digit}};
+ghost use Rattle.std.specs.{List.{list_all}, String.{string_bytes}};
 ghost use Rattle.cml_arguments.specs.Words.{saved_end, saved_name, AreOdds, DrawnOdds, ExplainsLive, ExploreOdds, IsUnknown, OrdersTwice, OverRecord, PassesTheLast, ReplacedOdds, Replaces, RunOdds, SavesOver, StepOdds, ToldOdds, TraceOdds};
 ghost use Rattle.cml_arguments.specs.Words as spec;
 

@@ -1,7 +1,6 @@
 //! The command that the arguments name, with what they give it.
 
-ghost use Rattle.std.specs.Prelude.{◌≡◌, ◌<◌, ◌-◌, [], true, is_some, map, IfOk, IsSomeAnd, Some};
-ghost use Rattle.std.specs.List.{list_all};
+ghost use Rattle.std.specs.{Prelude.{◌≡◌, ◌<◌, ◌-◌, [], true, is_some, map, IfOk, IsSomeAnd, Some}, List.{list_all}};
 ghost use Rattle.clap.specs.Words.{first_of, found_of, rows_of, subcommand_rows_of};
 ghost use Rattle.cml_arguments.specs.Words.{any_rule, commands, end_rules, explain_rules, explanation, explore_command, file_command, flag_rule, is_complete, is_flagged, is_served, option_number, option_texts, part_command, replay_command, run_command, shrink_command, step_command, trace_command, IsEnd, IsExplore, IsFile, IsPart, IsReplay, IsRun, IsShrink, IsStepping, IsTrace, Names};
 

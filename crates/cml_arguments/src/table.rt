@@ -1,8 +1,7 @@
 //! The commands of the program and their arguments, as clap is told of them.
 
 ghost use Rattle.std.specs.Prelude.{◌≡◌, ◌<◌, ◌-◌, [], ◌∷◌, codes, false, true, IfOk};
-ghost use Rattle.clap.specs.Words.{app_of, rule_of, shape_of};
-ghost use Rattle.clap.specs.declared.builder.command.Command.TheViews.{out-Command};
+ghost use Rattle.clap.specs.{Words.{app_of, rule_of, shape_of}, declared.builder.command.Command.TheViews.{out-Command}};
 ghost use Rattle.cml_arguments.specs.Words.{any_rule, command_of, commands, count_rule, depth_rule, explains, explore_command, file_command, file_rule, flag_rule, list_rule, option_rule, part_command, replay_command, run_command, runs_rule, shrink_command, step_command, trace_command, with_end, with_explain, with_finding, with_order, with_others, workers_rule};
 
 use clap::{Arg, ArgAction, Command, value_parser};

@@ -3,8 +3,7 @@
 ghost use Rattle.std.specs.Prelude.{◌≡◌, ◌↔◌, ◌<◌, ◌≤◌, ◌-◌, ◌++◌, ◌∷◌, ℕ, [], vec_capacity, vec_len, length, map, Contains, AllPairs};
 ghost use Rattle.std.specs.Prelude.{IfOk, IfErr, OnOk, OnErr, IsOk, IsTrue, IfSome, IsSome, IsNone, None, slice_get};
 ghost use Rattle.std.specs.Option.{option_copied, option_map_or};
-ghost use Rattle.cml_value.specs.Value.{unit};
-ghost use Rattle.cml_value.specs.declared.number.Tid.{Tid};
+ghost use Rattle.cml_value.specs.{Value.{unit}, declared.number.Tid.{Tid}};
 ghost use Rattle.cml_base.specs.Feeds.{Feeds, WantsNoMemory};
 ghost use Rattle.cml_base.specs.Registered.{lit_at, fed_at, given_at, HasRoomAt, KeepsRoom, TouchesOne, ChangesOne, MakeKeeps, RoomKeeps, AddsWait, RemovesWait, WaitsForLit, ComesBefore};
 

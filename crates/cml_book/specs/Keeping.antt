@@ -105,13 +105,13 @@ pub record AreFresh (ks : List ℕ) (ns : List PlainNack) : Type 0 where
   pub once : (k : ℕ) → times_named k ks ≤ 1
   pub each : (k : ℕ) → 1 ≤ times_named k ks → is_fresh (slice_get ns k) ≡ true
 
--- how many lights there is room for: of those that a commit turns on, and of those that it turns off
+-- room for lights: for how many that a commit turns on, and for how many that it turns off
 pub record Room : Type 0 where
   pub lit : ℕ
   pub unlit : ℕ
 
--- There is room for the lights that two such groups turn on and off: each nack of their scopes, each tick that a leaf waits for, and one
--- more.
+-- There is room for all lights that a commit of two groups as large as this one turns on and off: each nack of their scopes, each tick that
+-- one of their leaves waits for, and one more.
 pub record FitsIn (g : PlainGroup) (room : Room) : Type 0 where
   pub nacks : 2 * length (scopes g) ≤ room.lit
   pub ticks : 2 * leaf_count g + 1 ≤ room.unlit
@@ -120,8 +120,8 @@ pub record FitsIn (g : PlainGroup) (room : Room) : Type 0 where
 abbrev pub RoomGrows : Room → Room → Type 0
 RoomGrows old new = (g : PlainGroup) → FitsIn g old → FitsIn g new
 
--- The table was told the pending groups, and of each light that one of their leaves waits for whether it is lit. The nacks of the
--- pending groups are live. There is room for the lights that a commit can turn on and off.
+-- The table was told all pending groups; and for each light that one of their leaves waits for, it was told whether the light is lit. The
+-- nacks of the pending groups are live. There is room for the lights that a commit can turn on and off.
 pub record Keeps (w : PlainWorld) (entries : List PlainEntry) (told : Light → Bool) (room : Room) : Type 0 where
   pub told_groups : entries ≡ pending w
   pub told_lights : TellsLights w told

@@ -20,7 +20,7 @@ abbrev pub bases_of : Option (Bor PlainGroup) → List PlainBase
 bases_of None = []
 bases_of (Some g) = bases g.now
 
--- the base waits for a tick for which, of all bases, only those of these two lists wait
+-- The base event waits for a tick, and each base event of `all` that waits for this tick is one of `xs` or of `ys`.
 abbrev pub is_left : List PlainBase → List PlainBase → List PlainBase → PlainBase → Bool
 is_left all xs ys (at_tick t) = times_awaited t all == times_awaited t xs + times_awaited t ys
 is_left all xs ys _ = false

@@ -7,7 +7,7 @@ is_that so None = false
 is_that true (Some b) = b
 is_that false (Some b) = not b
 
--- when the places are marked in this way one after another, none of them has this mark before its turn
+-- The places of this list get the mark `so` one after another, and none of them has that mark already when its turn comes.
 abbrev pub was_each_other : Bool → List ℕ → List Bool → Bool
 was_each_other so [] marks = true
 was_each_other so (k ∷ ks) marks = not (is_that so (slice_get marks k)) && was_each_other so ks (slice_set marks k so)

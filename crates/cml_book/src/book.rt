@@ -2,27 +2,16 @@
 
 ghost use Rattle.std.specs.Prelude.{◌≡◌, ◌≢◌, ◌≤◌, ℕ, IfOk, IfSome, IfNone, OnOk, OnErr, IsTrue, Err, true, false, map, length, option_map, slice_get};
 ghost use Rattle.std.specs.Option.{option_copied, option_and_then};
-ghost use Rattle.cml_scan.specs.World.{pending};
-ghost use Rattle.cml_scan.specs.Light.{light_of};
-ghost use Rattle.cml_scan.specs.Views.{nack_of};
-ghost use Rattle.cml_scan.specs.Scan.{scan, scan_of, has_row};
-ghost use Rattle.cml_book.specs.Step.{empty_world};
-ghost use Rattle.cml_book.specs.Outcomes.{Does};
-ghost use Rattle.cml_book.specs.Spawn.{spawn as spawned};
-ghost use Rattle.cml_book.specs.MakeChan.{make_chan as made};
-ghost use Rattle.cml_book.specs.MakeSwap.{make_swap as swap_made};
+ghost use Rattle.cml_scan.specs.{World.{pending}, Light.{light_of}, Views.{nack_of}, Scan.{scan, scan_of, has_row}};
+ghost use Rattle.cml_book.specs.{Step.{empty_world}, Outcomes.{Does}, Spawn.{spawn as spawned}, MakeChan.{make_chan as made}};
+ghost use Rattle.cml_book.specs.{MakeSwap.{make_swap as swap_made}, Commit.{is_reading}, Clock.{IsAlarm}, Threads.{flat_of}, Holding.{value_at}};
+ghost use Rattle.cml_book.specs.{Walks.{is_running}, Entering.{max_tick}};
 ghost use Rattle.cml_book.specs.Nack as nack_spec;
 ghost use Rattle.cml_book.specs.Sync as sync_spec;
 ghost use Rattle.cml_book.specs.End as end_spec;
 ghost use Rattle.cml_book.specs.Commit as commit_spec;
-ghost use Rattle.cml_book.specs.Commit.{is_reading};
 ghost use Rattle.cml_book.specs.Swaps as swaps_spec;
 ghost use Rattle.cml_book.specs.Clock as clock_spec;
-ghost use Rattle.cml_book.specs.Clock.{IsAlarm};
-ghost use Rattle.cml_book.specs.Threads.{flat_of};
-ghost use Rattle.cml_book.specs.Holding.{value_at};
-ghost use Rattle.cml_book.specs.Walks.{is_running};
-ghost use Rattle.cml_book.specs.Entering.{max_tick};
 
 use crate::command::{Committed, Resume};
 use crate::fullness::{mailbox_len, nack_state, port_len};
@@ -56,10 +45,8 @@ pub struct Book<T: Table> {
 }
 
 impl<T: Table> Model for Book<T> {
-    ghost use Rattle.std.specs.Prelude.{◌≡◌, []};
-    ghost use Rattle.std.specs.Vec.{vec_capacity};
-    ghost use Rattle.cml_scan.specs.World.{PlainWorld};
-    ghost use Rattle.cml_scan.specs.Codes.{world_code};
+    ghost use Rattle.std.specs.{Prelude.{◌≡◌, []}, Vec.{vec_capacity}};
+    ghost use Rattle.cml_scan.specs.{World.{PlainWorld}, Codes.{world_code}};
     ghost use Rattle.cml_book.specs.Keeping.{Keeps};
 
     ghost Value = { PlainWorld };

@@ -24,8 +24,7 @@ pub struct Resume {
 
 impl Model for Resume {
     ghost use Rattle.std.specs.Prelude.{map};
-    ghost use Rattle.cml_book.specs.Resumes.{PlainResume};
-    ghost use Rattle.cml_book.specs.Codes.{resume_code};
+    ghost use Rattle.cml_book.specs.{Resumes.{PlainResume}, Codes.{resume_code}};
 
     ghost Value = { PlainResume };
 

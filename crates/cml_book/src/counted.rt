@@ -1,11 +1,9 @@
 //! A group that a thread waits on, with its ticks counted.
 
-ghost use Rattle.std.specs.Prelude.{◌≡◌, true, ◌≤◌, ◌<◌, ◌+◌, ◌^◌, ◌++◌, ℕ, length, map, slice_get, Some, IfOk, OnOk, OnErr};
-ghost use Rattle.std.specs.Vec.{vec_capacity};
+ghost use Rattle.std.specs.{Prelude.{◌≡◌, true, ◌≤◌, ◌<◌, ◌+◌, ◌^◌, ◌++◌, ℕ, length, map, slice_get, Some, IfOk, OnOk, OnErr}, Vec.{vec_capacity}};
 ghost use Rattle.cml_value.specs.Group.{bases, leaf_count, scopes, lost};
 ghost use Rattle.cml_signal.specs.Clocks.{leaves_at};
-ghost use Rattle.cml_group.specs.LaidOut.{max_leaves};
-ghost use Rattle.cml_group.specs.Leaves.{leaf_base};
+ghost use Rattle.cml_group.specs.{LaidOut.{max_leaves}, Leaves.{leaf_base}};
 ghost use Rattle.cml_book.specs.Keeping.{nack_light, times_awaited, has_no_tick, is_tickless, is_lightless};
 
 use crate::nacks::push_lights;
@@ -59,9 +57,8 @@ pub struct Counted {
 
 impl Model for Counted {
     ghost use Rattle.std.specs.Prelude.{◌≡◌, true, ◌≤◌, IfSome};
-    ghost use Rattle.cml_value.specs.Group.{PlainGroup, leaf_count};
+    ghost use Rattle.cml_value.specs.{Group.{PlainGroup, leaf_count}, GroupCodes.{group_code}};
     ghost use Rattle.cml_group.specs.LaidOut.{max_leaves};
-    ghost use Rattle.cml_value.specs.GroupCodes.{group_code};
     ghost use Rattle.cml_book.specs.Keeping.{CountsLeaves, is_tickless, is_lightless};
 
     ghost Value = { PlainGroup };

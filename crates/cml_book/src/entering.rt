@@ -1,7 +1,6 @@
 //! How a group enters: an event after some ticks becomes an event at a tick, counted from now.
 
-ghost use Rattle.std.specs.Prelude.{◌≡◌, false, IfOk};
-ghost use Rattle.std.specs.List.{list_any};
+ghost use Rattle.std.specs.{Prelude.{◌≡◌, false, IfOk}, List.{list_any}};
 ghost use Rattle.cml_value.specs.Group.{bases};
 ghost use Rattle.cml_book.specs.Entering.{is_far, entered, entered_base};
 

@@ -1,10 +1,8 @@
 //! Objects whose lights are turned on when they are fed.
 
 ghost use Rattle.std.specs.Prelude.{◌≡◌, ◌<◌, length, map};
-ghost use Rattle.cml_base.specs.Feeds.{IsAccepted};
-ghost use Rattle.cml_base.specs.Registered.{lit_at, fed_at};
-ghost use Rattle.cml_book.specs.Feeding.{IsTaken};
-ghost use Rattle.cml_book.specs.Telling.{newly_lit, TurnsOn};
+ghost use Rattle.cml_base.specs.{Feeds.{IsAccepted}, Registered.{lit_at, fed_at}};
+ghost use Rattle.cml_book.specs.{Feeding.{IsTaken}, Telling.{newly_lit, TurnsOn}};
 
 use cml_base::{FeedFault, Register, Source};
 use cml_scan::{Light, Table};

@@ -1,9 +1,8 @@
 //! What the objects of a register hold, and whether they are lit.
 
 ghost use Rattle.std.specs.Prelude.{◌≡◌, length, option_map, slice_get};
+ghost use Rattle.cml_scan.specs.{Light.{is_full, has_item}, Views.{nack_of}};
 ghost use Rattle.cml_scan.specs.Light as spec;
-ghost use Rattle.cml_scan.specs.Light.{is_full, has_item};
-ghost use Rattle.cml_scan.specs.Views.{nack_of};
 ghost use Rattle.cml_book.specs.Views.{queues_of};
 
 use cml_base::{Register, Source};

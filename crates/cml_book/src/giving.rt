@@ -1,12 +1,10 @@
 //! What a base event that is taken alone is given: its value, a copy of one that stays, and the light that is turned off.
 
-ghost use Rattle.std.specs.Prelude.{◌≡◌, ◌≤◌, ◌+◌, ◌++◌, true, false, None, IsTrue, IsOk, IfOk, length, map, slice_get};
-ghost use Rattle.std.specs.Option.{option_map_or};
+ghost use Rattle.std.specs.{Prelude.{◌≡◌, ◌≤◌, ◌+◌, ◌++◌, true, false, None, IsTrue, IsOk, IfOk, length, map, slice_get}, Option.{option_map_or}};
 ghost use Rattle.std.specs.Vec.{vec_capacity};
 ghost use Rattle.cml_base.specs.Registered.{lit_at};
+ghost use Rattle.cml_book.specs.{Commit.{copied, is_read}, Leaving.{can_give, turned_off}};
 ghost use Rattle.cml_book.specs.Commit as spec;
-ghost use Rattle.cml_book.specs.Commit.{copied, is_read};
-ghost use Rattle.cml_book.specs.Leaving.{can_give, turned_off};
 
 use crate::state::State;
 use cml_base::{Register, Source};

@@ -1,10 +1,7 @@
 //! The values that objects hold, and the numbers of the next ones.
 
-ghost use Rattle.std.specs.Prelude.{◌≡◌, length, slice_get};
-ghost use Rattle.std.specs.Option.{option_copied};
-ghost use Rattle.cml_book.specs.Commit.{held_in};
-ghost use Rattle.cml_book.specs.Holding.{first_in, value_at};
-ghost use Rattle.cml_book.specs.Views.{queues_of};
+ghost use Rattle.std.specs.{Prelude.{◌≡◌, length, slice_get}, Option.{option_copied}};
+ghost use Rattle.cml_book.specs.{Commit.{held_in}, Holding.{first_in, value_at}, Views.{queues_of}};
 
 use crate::state::State;
 use cml_base::Register;

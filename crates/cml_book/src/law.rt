@@ -2,10 +2,7 @@
 
 ghost use Rattle.std.specs.Prelude.{◌≡◌, ℕ};
 ghost use Rattle.cml_scan.specs.World.{PlainWorld};
-ghost use Rattle.cml_book.specs.Running.{runs_after};
-ghost use Rattle.cml_book.specs.Step.{step};
-ghost use Rattle.cml_book.specs.Walks.{is_running};
-ghost use Rattle.cml_book.specs.declared.command.Command.{Command};
+ghost use Rattle.cml_book.specs.{Running.{runs_after}, Step.{step}, Walks.{is_running}, declared.command.Command.{Command}};
 
 /// Which threads run after a command, by its reply: one that was made, and the parties of a row that
 /// was taken; no thread that now waits or has ended; and every other thread as before.

@@ -1,14 +1,10 @@
 //! A group as it enters, and the lights that its leaves wait for.
 
-ghost use Rattle.std.specs.Prelude.{◌≡◌, ◌≤◌, ◌+◌, ◌++◌, ◌∷◌, [], true, false, not, length, IfOk};
-ghost use Rattle.std.specs.Vec.{vec_capacity};
-ghost use Rattle.std.specs.List.{list_any, filter};
+ghost use Rattle.std.specs.{Prelude.{◌≡◌, ◌≤◌, ◌+◌, ◌++◌, ◌∷◌, [], true, false, not, length, IfOk}, Vec.{vec_capacity}, List.{list_any, filter}};
 ghost use Rattle.cml_value.specs.Group.{bases, leaf_count, group_fits};
 ghost use Rattle.cml_group.specs.LaidOut.{max_leaves};
 ghost use Rattle.cml_scan.specs.Light.{light_of};
-ghost use Rattle.cml_book.specs.Entering.{is_far, entered};
-ghost use Rattle.cml_book.specs.Walks.{IsStanding, IsQuiet};
-ghost use Rattle.cml_book.specs.Keeping.{lights_in, is_lightless};
+ghost use Rattle.cml_book.specs.{Entering.{is_far, entered}, Walks.{IsStanding, IsQuiet}, Keeping.{lights_in, is_lightless}};
 
 use crate::counted::Counted;
 use crate::entering::entering;

@@ -1,10 +1,8 @@
 //! Marks, one for each number, by which it is found whether a number is named twice.
 
-ghost use Rattle.std.specs.Prelude.{◌≡◌, ◌==◌, ◌+◌, true, not, nat_lt, OnOk, OnErr, slice_get, slice_set};
-ghost use Rattle.std.specs.List.{list_all};
+ghost use Rattle.std.specs.{Prelude.{◌≡◌, ◌==◌, ◌+◌, true, not, nat_lt, OnOk, OnErr, slice_get, slice_set}, List.{list_all}};
 ghost use Rattle.cml_value.specs.Group.{scopes, nacks_of};
-ghost use Rattle.cml_book.specs.Sync.{times_named, with_each};
-ghost use Rattle.cml_book.specs.NackMarks.{is_that, was_each_other};
+ghost use Rattle.cml_book.specs.{Sync.{times_named, with_each}, NackMarks.{is_that, was_each_other}};
 
 use cml_value::{Group, GroupKind, NackId};
 use std::alloc::{AllocError, Global};

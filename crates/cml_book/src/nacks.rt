@@ -2,12 +2,9 @@
 
 ghost use Rattle.std.specs.Prelude.{◌≡◌, ◌<◌, ◌≤◌, ◌+◌, ◌++◌, [], ◌∷◌, length, map, slice_get, slice_set, Some, true, if◌then◌else◌, OnOk};
 ghost use Rattle.std.specs.Vec.{vec_capacity};
-ghost use Rattle.cml_value.specs.Group.{leaf_count, scopes, nacks_of, lost};
-ghost use Rattle.cml_value.specs.Nack.{live, fired, held};
+ghost use Rattle.cml_value.specs.{Group.{leaf_count, scopes, nacks_of, lost}, Nack.{live, fired, held}};
 ghost use Rattle.cml_group.specs.Leaves.{numbers};
-ghost use Rattle.cml_book.specs.Commit.{settled};
-ghost use Rattle.cml_book.specs.Sync.{with_each};
-ghost use Rattle.cml_book.specs.Keeping.{nack_light, AreLiveNacks, AreFresh, is_fresh, FitsIn, RoomGrows};
+ghost use Rattle.cml_book.specs.{Commit.{settled}, Sync.{with_each}, Keeping.{nack_light, AreLiveNacks, AreFresh, is_fresh, FitsIn, RoomGrows}};
 
 use crate::counted::Counted;
 use cml_base::Register;

@@ -1,15 +1,12 @@
 //! Variables and mailboxes: how they are made, and how values are put into them.
 
 ghost use Rattle.std.specs.Prelude.{◌≡◌, Bool, List};
-ghost use Rattle.cml_scan.specs.World.{PlainEntry};
-ghost use Rattle.cml_scan.specs.declared.object.Light.{Light};
+ghost use Rattle.cml_scan.specs.{World.{PlainEntry}, declared.object.Light.{Light}};
 ghost use Rattle.cml_queues.specs.Queues.{is_full_at};
-ghost use Rattle.cml_book.specs.Outcomes.{Does, DoesWith};
+ghost use Rattle.cml_book.specs.{Outcomes.{Does, DoesWith}, Telling.{StaysKept}, Views.{queues_of}};
 ghost use Rattle.cml_book.specs.MakeObjects as make_spec;
 ghost use Rattle.cml_book.specs.Put as put_spec;
 ghost use Rattle.cml_book.specs.Mail as mail_spec;
-ghost use Rattle.cml_book.specs.Telling.{StaysKept};
-ghost use Rattle.cml_book.specs.Views.{queues_of};
 
 use crate::book::MAX_OBJECTS;
 use crate::feeding::{feed, tell_lit};

@@ -1,18 +1,12 @@
 //! Pending threads: how a thread begins to wait on a group, is withdrawn, and goes on from one of its leaves.
 
-ghost use Rattle.std.specs.Prelude.{◌≡◌, ℕ, ◌<◌, ◌≤◌, ◌+◌, ◌^◌, Some, IsSome, OnOk, OnErr, slice_get, slice_set};
-ghost use Rattle.std.specs.Option.{option_copied, option_and_then};
+ghost use Rattle.std.specs.{Prelude.{◌≡◌, ℕ, ◌<◌, ◌≤◌, ◌+◌, ◌^◌, Some, IsSome, OnOk, OnErr, slice_get, slice_set}, Option.{option_copied, option_and_then}};
 ghost use Rattle.cml_value.specs.Group.{bases, leaf_count, scopes, nacks_of, lost};
 ghost use Rattle.cml_signal.specs.Clocks.{leaves_at};
-ghost use Rattle.cml_group.specs.LaidOut.{max_leaves};
-ghost use Rattle.cml_group.specs.Leaves.{pick, numbers};
+ghost use Rattle.cml_group.specs.{LaidOut.{max_leaves}, Leaves.{pick, numbers}};
 ghost use Rattle.cml_scan.specs.World.{running, pending_on, live};
-ghost use Rattle.cml_book.specs.Outcomes.{with_thread};
-ghost use Rattle.cml_book.specs.Sync.{with_each};
-ghost use Rattle.cml_book.specs.Commit.{awaited, group_awaited, released, settled};
-ghost use Rattle.cml_book.specs.Keeping.{AreFresh, AreLiveNacks, Counts, times_awaited};
-ghost use Rattle.cml_book.specs.Parties.{WaitsOn};
-ghost use Rattle.cml_book.specs.Threads.{flat_of};
+ghost use Rattle.cml_book.specs.{Outcomes.{with_thread}, Sync.{with_each}, Commit.{awaited, group_awaited, released, settled}};
+ghost use Rattle.cml_book.specs.{Keeping.{AreFresh, AreLiveNacks, Counts, times_awaited}, Parties.{WaitsOn}, Threads.{flat_of}};
 
 use crate::counted::Counted;
 use crate::nacks::{enter, settle};

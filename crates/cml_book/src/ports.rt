@@ -1,19 +1,14 @@
 //! Multicast channels and their ports.
 
 ghost use Rattle.std.specs.Prelude.{◌≡◌, ◌<◌, Bool, List, not, All, Some, length, IfOk, OnOk, OnErr};
-ghost use Rattle.cml_scan.specs.World.{PlainEntry};
-ghost use Rattle.cml_scan.specs.Light.{has_item};
-ghost use Rattle.cml_scan.specs.declared.object.Light.{Light};
+ghost use Rattle.cml_scan.specs.{World.{PlainEntry}, Light.{has_item}, declared.object.Light.{Light}};
 ghost use Rattle.cml_base.specs.Registered.{HasRoomAt};
 ghost use Rattle.cml_queues.specs.Posts.{port_numbers, unread, any_is_full, posted, says_full};
-ghost use Rattle.cml_book.specs.Outcomes.{Does, DoesWith, max_objects};
-ghost use Rattle.cml_book.specs.MakeObjects.{make_mchan};
-ghost use Rattle.cml_book.specs.MakePort as spec;
-ghost use Rattle.cml_book.specs.MakePort.{with_port};
-ghost use Rattle.cml_book.specs.Multicast as multicast_spec;
+ghost use Rattle.cml_book.specs.{Outcomes.{Does, DoesWith, max_objects}, MakeObjects.{make_mchan}, MakePort.{with_port}};
 ghost use Rattle.cml_book.specs.Telling.{StaysKept, TurnsOn, newly_lit};
-ghost use Rattle.cml_book.specs.Homes.{AddsPort, ArePorts, AreBelow, StillFew, has_room, port_light, first_lights};
-ghost use Rattle.cml_book.specs.Views.{ports_of};
+ghost use Rattle.cml_book.specs.{Homes.{AddsPort, ArePorts, AreBelow, StillFew, has_room, port_light, first_lights}, Views.{ports_of}};
+ghost use Rattle.cml_book.specs.MakePort as spec;
+ghost use Rattle.cml_book.specs.Multicast as multicast_spec;
 
 use crate::book::MAX_OBJECTS;
 use crate::feeding::tell_lit;

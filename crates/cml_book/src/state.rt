@@ -1,17 +1,10 @@
 //! What a book holds besides its table: threads, objects, nacks and the time.
 
 ghost use Rattle.std.specs.Prelude.{◌≡◌, ◌≢◌, ◌≤◌, Some, Err, IfOk, IfSome, IfNone, ℕ, length, map, slice_get, slice_set};
-ghost use Rattle.cml_scan.specs.World.{running, ended, pending};
-ghost use Rattle.cml_scan.specs.Light.{light_of};
-ghost use Rattle.cml_book.specs.Entering.{max_tick};
+ghost use Rattle.cml_scan.specs.{World.{running, ended, pending}, Light.{light_of}};
+ghost use Rattle.cml_book.specs.{Entering.{max_tick}, Outcomes.{Does, with_thread}, Spawn.{spawn as spawned}, MakeChan.{make_chan as made}};
+ghost use Rattle.cml_book.specs.{MakeSwap.{make_swap as swap_made}, Nack.{nack as nack_made}, Clock.{IsAlarm}, Walks.{is_running}};
 ghost use Rattle.cml_book.specs.Outcomes as spec;
-ghost use Rattle.cml_book.specs.Outcomes.{Does, with_thread};
-ghost use Rattle.cml_book.specs.Spawn.{spawn as spawned};
-ghost use Rattle.cml_book.specs.MakeChan.{make_chan as made};
-ghost use Rattle.cml_book.specs.MakeSwap.{make_swap as swap_made};
-ghost use Rattle.cml_book.specs.Nack.{nack as nack_made};
-ghost use Rattle.cml_book.specs.Clock.{IsAlarm};
-ghost use Rattle.cml_book.specs.Walks.{is_running};
 
 use crate::book::{MAX_OBJECTS, MAX_THREADS};
 use crate::fullness::{has_fired, ivar_is_full, mailbox_has_item, mvar_is_full, port_has_item};
@@ -49,12 +42,8 @@ pub struct State {
 
 impl Model for State {
     ghost use Rattle.std.specs.Prelude.{◌≡◌, ◌≤◌, length};
-    ghost use Rattle.cml_scan.specs.World.{PlainWorld};
-    ghost use Rattle.cml_scan.specs.Codes.{world_code};
-    ghost use Rattle.cml_book.specs.Views.{queues_of, ports_of};
-    ghost use Rattle.cml_book.specs.Keeping.{AreFew, Counts, AreUntold};
-    ghost use Rattle.cml_book.specs.Entering.{max_tick};
-    ghost use Rattle.cml_book.specs.Homes.{ArePorts};
+    ghost use Rattle.cml_scan.specs.{World.{PlainWorld}, Codes.{world_code}};
+    ghost use Rattle.cml_book.specs.{Views.{queues_of, ports_of}, Keeping.{AreFew, Counts, AreUntold}, Entering.{max_tick}, Homes.{ArePorts}};
 
     ghost Value = { PlainWorld };
 

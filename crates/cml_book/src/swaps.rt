@@ -1,8 +1,7 @@
 //! Which rows are exchanges over a swap channel.
 
 ghost use Rattle.std.specs.Prelude.{◌≡◌};
-ghost use Rattle.cml_book.specs.Commit.{base_awaited};
-ghost use Rattle.cml_book.specs.Swaps.{is_swap, are_swaps};
+ghost use Rattle.cml_book.specs.{Commit.{base_awaited}, Swaps.{is_swap, are_swaps}};
 
 use crate::state::State;
 use cml_scan::Meet;

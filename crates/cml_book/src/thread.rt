@@ -26,8 +26,7 @@ enum Doing {
 }
 
 impl Model for Thread {
-    ghost use Rattle.cml_scan.specs.World.{PlainThread};
-    ghost use Rattle.cml_scan.specs.Codes.{thread_code};
+    ghost use Rattle.cml_scan.specs.{World.{PlainThread}, Codes.{thread_code}};
     ghost use Rattle.cml_book.specs.Views.{plain_doing};
 
     ghost Value = { PlainThread };
@@ -40,8 +39,7 @@ impl Model for Thread {
 impl Thread {
     ghost use Rattle.std.specs.Option.{option_copied};
     ghost use Rattle.cml_scan.specs.Light.{has_ended};
-    ghost use Rattle.cml_book.specs.Threads.{flat_of};
-    ghost use Rattle.cml_book.specs.Walks.{runs};
+    ghost use Rattle.cml_book.specs.{Threads.{flat_of}, Walks.{runs}};
 
     pub fn running() -> Thread
         ensures { result ≡ running }

@@ -1,18 +1,13 @@
 //! The ticks that the leaves of a group wait for, counted in the clock.
 
-ghost use Rattle.std.specs.Prelude.{◌≡◌, ◌≤◌, ◌<◌, ◌+◌, ◌^◌, ◌++◌, ℕ, [], ◌∷◌, true, length, map, take, IfOk, OnOk, OnErr};
-ghost use Rattle.std.specs.List.{filter};
+ghost use Rattle.std.specs.{Prelude.{◌≡◌, ◌≤◌, ◌<◌, ◌+◌, ◌^◌, ◌++◌, ℕ, [], ◌∷◌, true, length, map, take, IfOk, OnOk, OnErr}, List.{filter}};
 ghost use Rattle.std.specs.Vec.{vec_capacity};
 ghost use Rattle.cml_value.specs.Group.{bases, leaf_count};
 ghost use Rattle.cml_signal.specs.Clocks.{leaves_at};
 ghost use Rattle.cml_group.specs.LaidOut.{max_leaves};
-ghost use Rattle.cml_scan.specs.World.{pending};
-ghost use Rattle.cml_scan.specs.Table.{has_light};
-ghost use Rattle.cml_scan.specs.declared.object.Light.{Light};
+ghost use Rattle.cml_scan.specs.{World.{pending}, Table.{has_light}, declared.object.Light.{Light}};
 ghost use Rattle.cml_scan.specs.declared.object.Light.TheVariants as of;
-ghost use Rattle.cml_book.specs.Clock.{bases_awaited};
-ghost use Rattle.cml_book.specs.Keeping.{lights_in, awaits_tick, times_awaited};
-ghost use Rattle.cml_book.specs.Leaving.{comes, is_left, bases_of};
+ghost use Rattle.cml_book.specs.{Clock.{bases_awaited}, Keeping.{lights_in, awaits_tick, times_awaited}, Leaving.{comes, is_left, bases_of}};
 
 use crate::counted::Counted;
 use crate::state::State;

@@ -1,14 +1,10 @@
 //! Walks over a group that take no memory, and why a wait on it is refused.
 
-ghost use Rattle.std.specs.Prelude.{◌≡◌, ℕ, Bool, true, false, None, IfSome, not, nat_lt, length, slice_get};
-ghost use Rattle.std.specs.List.{list_all};
-ghost use Rattle.cml_value.specs.Value.{PlainBase};
-ghost use Rattle.cml_value.specs.Group.{bases, scopes, nacks_of};
-ghost use Rattle.cml_book.specs.Entering.{is_far};
-ghost use Rattle.cml_book.specs.Sync as spec;
-ghost use Rattle.cml_book.specs.Sync.{base_exists, is_fresh_for};
-ghost use Rattle.cml_book.specs.Outcomes.{first_if};
+ghost use Rattle.std.specs.{Prelude.{◌≡◌, ℕ, Bool, true, false, None, IfSome, not, nat_lt, length, slice_get}, List.{list_all}};
+ghost use Rattle.cml_value.specs.{Value.{PlainBase}, Group.{bases, scopes, nacks_of}};
+ghost use Rattle.cml_book.specs.{Entering.{is_far}, Sync.{base_exists, is_fresh_for}, Outcomes.{first_if}};
 ghost use Rattle.cml_book.specs.Walks.{shape_refusal, enters_as_it_is, enters_quietly, IsPlain, IsWhole, IsStanding, IsQuiet};
+ghost use Rattle.cml_book.specs.Sync as spec;
 
 use crate::refusal::Refusal;
 use crate::state::State;

@@ -20,8 +20,7 @@ pub struct Channels;
 
 impl Paired for Channels {
     ghost use Rattle.std.specs.Prelude.{false};
-    ghost use Rattle.cml_channel.specs.Sides.{channel_of, is_sender, handed_by, meet, side_in};
-    ghost use Rattle.cml_channel.specs.SideLaws.{sides_meet, sides_lead};
+    ghost use Rattle.cml_channel.specs.{Sides.{channel_of, is_sender, handed_by, meet, side_in}, SideLaws.{sides_meet, sides_lead}};
 
     type Side = ChannelSide;
 

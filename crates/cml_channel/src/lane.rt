@@ -1,10 +1,8 @@
 //! The offers that wait on one side of one object.
 
 ghost use Rattle.std.specs.Prelude.{◌≡◌, ◌≤◌, ◌<◌, ◌+◌, ◌-◌, ◌*◌, ◌^◌, ℕ, List, [], nat_lt, ◌++◌, length, filter, take, drop, OnOk, slice_index_or, vec_len};
-ghost use Rattle.std.specs.List.{list_any};
-ghost use Rattle.std.specs.Vec.{vec_capacity};
-ghost use Rattle.cml_scan.specs.declared.meet.Place.{Place};
-ghost use Rattle.cml_scan.specs.Order.{Every, Ascends, before};
+ghost use Rattle.std.specs.{List.{list_any}, Vec.{vec_capacity}};
+ghost use Rattle.cml_scan.specs.{declared.meet.Place.{Place}, Order.{Every, Ascends, before}};
 ghost use Rattle.cml_channel.specs.declared.lane.Bound.TheVariants.{Below};
 ghost use Rattle.cml_channel.specs.Lanes as spec;
 
@@ -55,8 +53,7 @@ pub struct Lane {
 }
 
 impl Model for Lane {
-    ghost use Rattle.std.specs.Prelude.{◌≤◌, ◌-◌, drop, vec_len};
-    ghost use Rattle.std.specs.Vec.{vec_capacity};
+    ghost use Rattle.std.specs.{Prelude.{◌≤◌, ◌-◌, drop, vec_len}, Vec.{vec_capacity}};
     ghost use Rattle.cml_scan.specs.Order.{Ascends, before};
     ghost use Rattle.cml_channel.specs.Lanes.{PlainLane};
 

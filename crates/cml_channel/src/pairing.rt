@@ -29,12 +29,12 @@ pub struct PairedId {
     pub number: u32,
 }
 
-/// Where an offer stands by which a thread can meet another one.
+/// Where an offer stands that can meet another one: on an object, in one of its lanes.
 #[derive(Clone, Copy)]
 pub struct SidePlace {
     /// The object.
     pub object: PairedId,
-    /// Whether it can stand first.
+    /// Whether the offer can be the head.
     pub heads: bool,
 }
 
@@ -87,9 +87,9 @@ pub fn place(base: &Base) -> Option<SidePlace>
 }
 
 impl SidePlace {
-    // Whether an offer at this place can be the head of one at the other: this one can be a head, both are on one
-    // object, and the other is in the lane of partners. On a channel that is the lane of the receivers, which are no
-    // heads. A swap channel has one lane alone, and all in it can be heads.
+    // Whether an offer here can meet one at the other place, as the head: it can be a head, both are on one object, and
+    // the other stands where partners stand. On a channel partners are receivers, which are no heads. On a swap channel
+    // all stand in one lane, and each can be a head.
     fn leads(&self, other: &SidePlace) -> bool
         ensures { result ≡ spec.leads self.now other.now }
     {

@@ -18,8 +18,7 @@ pub struct SwapChannels;
 
 impl Paired for SwapChannels {
     ghost use Rattle.std.specs.Prelude.{true};
-    ghost use Rattle.cml_channel.specs.Swaps.{channel_of, can_stand_first, handed_by, meet, side_in};
-    ghost use Rattle.cml_channel.specs.SwapLaws.{sides_meet, sides_lead};
+    ghost use Rattle.cml_channel.specs.{Swaps.{channel_of, can_stand_first, handed_by, meet, side_in}, SwapLaws.{sides_meet, sides_lead}};
 
     type Side = SwapSide;
 

@@ -1,9 +1,8 @@
 //! How each mark is drawn.
 
-ghost use Rattle.std.specs.Prelude.{◌≡◌, ◌++◌, IfOk, OnOk, codes};
-ghost use Rattle.std.specs.Fmt.{decimal};
-ghost use Rattle.cml_chart.specs.Figures as spec;
+ghost use Rattle.std.specs.{Prelude.{◌≡◌, ◌++◌, IfOk, OnOk, codes}, Fmt.{decimal}};
 ghost use Rattle.cml_chart.specs.Views.{plain_mark, chart_frame};
+ghost use Rattle.cml_chart.specs.Figures as spec;
 
 use crate::frame::{Frame, level_of, line_from_left, note_of, seat_of};
 use crate::mark::{Mark, Shape, row_height};

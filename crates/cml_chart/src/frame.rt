@@ -1,8 +1,8 @@
 //! Where the lines of threads stand in a picture.
 
 ghost use Rattle.std.specs.Prelude.{◌≡◌, ◌++◌, ◌∷◌, [], ◌≤◌, ◌<◌, ◌+◌, ◌^◌, IfOk, OnOk, length, map, fold, max, unwrap_or, slice_get, slice_set};
-ghost use Rattle.cml_chart.specs.Frames as spec;
 ghost use Rattle.cml_chart.specs.Views.{plain_mark, chart_frame};
+ghost use Rattle.cml_chart.specs.Frames as spec;
 
 use crate::mark::{Mark, Shape, row_drop};
 use crate::xml::push_number;

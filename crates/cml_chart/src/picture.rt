@@ -1,11 +1,8 @@
 //! The text of a picture.
 
-ghost use Rattle.std.specs.Prelude.{◌≡◌, ◌++◌, IfOk, OnOk, map, codes};
-ghost use Rattle.std.specs.List.{flat_map};
+ghost use Rattle.std.specs.{Prelude.{◌≡◌, ◌++◌, IfOk, OnOk, map, codes}, List.{flat_map}};
+ghost use Rattle.cml_chart.specs.{WellFormed.{IsWellFormed}, Figures.{mark_text, life_text}, Views.{plain_mark, chart_frame}};
 ghost use Rattle.cml_chart.specs.Pictures as spec;
-ghost use Rattle.cml_chart.specs.WellFormed.{IsWellFormed};
-ghost use Rattle.cml_chart.specs.Figures.{mark_text, life_text};
-ghost use Rattle.cml_chart.specs.Views.{plain_mark, chart_frame};
 
 use crate::figure::{push_life, push_mark};
 use crate::frame::{Frame, frame_of};

@@ -1,11 +1,8 @@
 //! How elements, their attributes and texts are written in XML.
 
-ghost use Rattle.std.specs.Prelude.{◌≡◌, ◌++◌, ◌∷◌, [], IfOk, OnOk, codes};
-ghost use Rattle.std.specs.String.{string_bytes};
-ghost use Rattle.std.specs.Fmt.{decimal};
+ghost use Rattle.std.specs.{Prelude.{◌≡◌, ◌++◌, ◌∷◌, [], IfOk, OnOk, codes}, String.{string_bytes}, Fmt.{decimal}};
+ghost use Rattle.cml_chart.specs.{Figures.{words_text, spot_attributes, path_text, title_text}, Views.{plain_spot}};
 ghost use Rattle.cml_chart.specs.Xml as spec;
-ghost use Rattle.cml_chart.specs.Figures.{words_text, spot_attributes, path_text, title_text};
-ghost use Rattle.cml_chart.specs.Views.{plain_spot};
 
 use std::alloc::{AllocError, Global};
 

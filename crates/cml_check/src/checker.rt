@@ -1,13 +1,8 @@
 //! From the forms of a script to its program.
 
 ghost use Rattle.std.specs.Prelude.{◌≡◌, ◌≤◌, IfOk, length, map};
-ghost use Rattle.cml_check.specs.Syntax.{written};
-ghost use Rattle.cml_check.specs.Checked.{Finds};
-ghost use Rattle.cml_check.specs.Heads.{arities_of, function_limit};
-ghost use Rattle.cml_check.specs.HeadViews.{plain_head};
-ghost use Rattle.cml_check.specs.InOrder.{InOrder, FunctionFits, arities, names_of};
-ghost use Rattle.cml_check.specs.Shape.{shape, function_by, functions_in};
-ghost use Rattle.cml_check.specs.Sizes.{statements_of};
+ghost use Rattle.cml_check.specs.{Syntax.{written}, Checked.{Finds}, Heads.{arities_of, function_limit}, HeadViews.{plain_head}};
+ghost use Rattle.cml_check.specs.{InOrder.{InOrder, FunctionFits, arities, names_of}, Shape.{shape, function_by, functions_in}, Sizes.{statements_of}};
 ghost use Rattle.cml_check.specs.Statements.{statement_limit};
 
 use crate::fault::CheckFault;

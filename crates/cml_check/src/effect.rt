@@ -2,9 +2,9 @@
 
 ghost use Rattle.std.specs.Prelude.{◌≡◌, Some};
 ghost use Rattle.cml_text.specs.Forms.{plain_forms, span_of};
-ghost use Rattle.cml_check.specs.Statements as spec;
 ghost use Rattle.cml_check.specs.Statements.{effect_in, source_by, source_in, form_source};
 ghost use Rattle.cml_check.specs.Returned.{FindsEffect, EffectIsInOrder, FindsSource, SourceIsInOrder};
+ghost use Rattle.cml_check.specs.Statements as spec;
 ghost use Rattle.cml_check.specs.declared.word.Word.TheVariants as words;
 
 use crate::expression::{expression, function_call, list_expression};

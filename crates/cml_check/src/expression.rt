@@ -2,14 +2,10 @@
 
 ghost use Rattle.std.specs.Prelude.{◌≡◌, ℕ, ◌+◌, ◌≤◌, IfOk, List, Some, length, true};
 ghost use Rattle.cml_text.specs.Forms.{plain_forms, span_of};
-ghost use Rattle.cml_check.specs.Syntax.{exprs_map, call_map, name_at};
-ghost use Rattle.cml_check.specs.Checked.{Finds};
-ghost use Rattle.cml_check.specs.Heads.{arities_of, takes, function_in};
+ghost use Rattle.cml_check.specs.{Syntax.{exprs_map, call_map, name_at}, Checked.{Finds}, Heads.{arities_of, takes, function_in}};
 ghost use Rattle.cml_check.specs.Expressions.{count, name_in, expr_in, list_in, exprs_in, called_in};
-ghost use Rattle.cml_check.specs.ExpressionParts.{unary_in, binary_in, wrap_in, choose_in, guard_in, nack_in};
-ghost use Rattle.cml_check.specs.InOrder.{expr_fits, exprs_fit, exprs_count};
-ghost use Rattle.cml_check.specs.Returned.{FindsExpr, ExprIsInOrder};
-ghost use Rattle.cml_check.specs.Words.{word_of as word_spelled};
+ghost use Rattle.cml_check.specs.{ExpressionParts.{unary_in, binary_in, wrap_in, choose_in, guard_in, nack_in}, InOrder.{expr_fits, exprs_fit, exprs_count}};
+ghost use Rattle.cml_check.specs.{Returned.{FindsExpr, ExprIsInOrder}, Words.{word_of as word_spelled}};
 ghost use Rattle.cml_check.specs.declared.word.Word.TheVariants as words;
 
 use crate::fault::{CheckFault, CheckKind, fault_at};

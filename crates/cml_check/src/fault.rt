@@ -2,8 +2,7 @@
 
 ghost use Rattle.std.specs.Prelude.{◌≡◌};
 ghost use Rattle.cml_text.specs.Forms.{span_of};
-ghost use Rattle.cml_check.specs.Faults.{check_kind_number, check_kind_name};
-ghost use Rattle.cml_check.specs.declared.fault.CheckFault.TheVariants.{At, Memory};
+ghost use Rattle.cml_check.specs.{Faults.{check_kind_number, check_kind_name}, declared.fault.CheckFault.TheVariants.{At, Memory}};
 
 use cml_text::Sexpr;
 use std::alloc::{AllocError, AllocFailed};

@@ -2,10 +2,9 @@
 
 ghost use Rattle.std.specs.Prelude.{◌≡◌, ◌<◌, ◌≤◌, List, [], codes, length, IfSome, IfOk, true, Some};
 ghost use Rattle.cml_text.specs.Forms.{plain_forms, span_of};
-ghost use Rattle.cml_check.specs.Checked.{Finds};
-ghost use Rattle.cml_check.specs.Heads as spec;
-ghost use Rattle.cml_check.specs.Heads.{arities_of, function_limit, function_number, takes, name_place, heads_from};
+ghost use Rattle.cml_check.specs.{Checked.{Finds}, Heads.{arities_of, function_limit, function_number, takes, name_place, heads_from}};
 ghost use Rattle.cml_check.specs.HeadViews.{plain_head, plain_heads};
+ghost use Rattle.cml_check.specs.Heads as spec;
 ghost use Rattle.cml_check.specs.declared.word.Word.TheVariants as words;
 
 use crate::fault::{CheckFault, CheckKind, fault_at};
@@ -36,10 +35,8 @@ pub struct Heads<'a> {
 }
 
 impl<'a> Model for Heads<'a> {
-    ghost use Rattle.std.specs.Prelude.{List};
-    ghost use Rattle.std.specs.Coded.{coded_list};
-    ghost use Rattle.cml_check.specs.Heads.{PlainHead};
-    ghost use Rattle.cml_check.specs.HeadViews.{plain_heads, head_code, AreHeads};
+    ghost use Rattle.std.specs.{Prelude.{List}, Coded.{coded_list}};
+    ghost use Rattle.cml_check.specs.{Heads.{PlainHead}, HeadViews.{plain_heads, head_code, AreHeads}};
 
     ghost Value = { List PlainHead };
 

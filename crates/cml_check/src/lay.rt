@@ -1,11 +1,8 @@
 //! Statements laid flat.
 
 ghost use Rattle.std.specs.Prelude.{◌≡◌, ◌+◌, ◌++◌, drop, length, map, IfOk};
-ghost use Rattle.cml_check.specs.Sizes.{stmt_count, stmts_count};
-ghost use Rattle.cml_check.specs.Syntax.{stmts};
+ghost use Rattle.cml_check.specs.{Sizes.{stmt_count, stmts_count}, Syntax.{stmts}, Layout.{stmt_code, stmts_code, code_of}, InstrViews.{plain_instr}};
 ghost use Rattle.cml_check.specs.Layout as layout;
-ghost use Rattle.cml_check.specs.Layout.{stmt_code, stmts_code, code_of};
-ghost use Rattle.cml_check.specs.InstrViews.{plain_instr};
 
 use crate::instr::Instr;
 use crate::syntax::{Block, Stmt, StmtKind};

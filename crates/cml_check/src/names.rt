@@ -1,12 +1,9 @@
 //! The names that a script declares, each at its position.
 
-ghost use Rattle.std.specs.Prelude.{◌≡◌, ◌<◌, false, List, [], length, IfSome, IfNone, IfOk, OnOk, OnErr, true, position, map};
-ghost use Rattle.std.specs.String.{string_bytes};
+ghost use Rattle.std.specs.{Prelude.{◌≡◌, ◌<◌, false, List, [], length, IfSome, IfNone, IfOk, OnOk, OnErr, true, position, map}, String.{string_bytes}};
 ghost use Rattle.std.specs.Str.{bytes_eq};
-ghost use Rattle.cml_check.specs.Checked.{Finds};
+ghost use Rattle.cml_check.specs.{Checked.{Finds}, Names.{has_name, with_name, AreDistinct}, Syntax.{name_at}};
 ghost use Rattle.cml_check.specs.Names as spec;
-ghost use Rattle.cml_check.specs.Names.{has_name, with_name, AreDistinct};
-ghost use Rattle.cml_check.specs.Syntax.{name_at};
 
 use crate::fault::{CheckFault, CheckKind, fault_at};
 use crate::word::word_of;
@@ -23,8 +20,7 @@ pub struct Names<'a> {
 
 impl<'a> Model for Names<'a> {
     ghost use Rattle.std.specs.Prelude.{List, map};
-    ghost use Rattle.cml_check.specs.Syntax.{Name};
-    ghost use Rattle.cml_check.specs.Names.{AreDistinct};
+    ghost use Rattle.cml_check.specs.{Syntax.{Name}, Names.{AreDistinct}};
 
     ghost Value = { List Name };
 

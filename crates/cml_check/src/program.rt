@@ -2,13 +2,8 @@
 
 ghost use Rattle.std.specs.Prelude.{◌≡◌, ◌<◌, ◌≤◌, ℕ, List, IfOk, IfSome, MatchOption, Some, true, codes, length, map, slice_get, slice_index_or};
 ghost use Rattle.std.specs.String.{string_bytes};
-ghost use Rattle.cml_check.specs.Heads.{numbered, takes};
-ghost use Rattle.cml_check.specs.InOrder.{InOrder, IsProgram, FunctionFits, arities, names_of};
-ghost use Rattle.cml_check.specs.Sizes.{size_of, IsWithinSize};
-ghost use Rattle.cml_check.specs.Syntax.{no_stmts};
-ghost use Rattle.cml_check.specs.Layout.{left};
-ghost use Rattle.cml_check.specs.Follows.{Follows, instr_fits};
-ghost use Rattle.cml_check.specs.InstrViews.{plain_instr};
+ghost use Rattle.cml_check.specs.{Heads.{numbered, takes}, InOrder.{InOrder, IsProgram, FunctionFits, arities, names_of}, Sizes.{size_of, IsWithinSize}};
+ghost use Rattle.cml_check.specs.{Syntax.{no_stmts}, Layout.{left}, Follows.{Follows, instr_fits}, InstrViews.{plain_instr}};
 
 use crate::instr::Instr;
 use crate::lay::lay;
@@ -30,10 +25,8 @@ pub struct Function {
 }
 
 impl Model for Function {
-    ghost use Rattle.std.specs.Prelude.{ℕ, map};
-    ghost use Rattle.std.specs.String.{string_bytes};
-    ghost use Rattle.cml_check.specs.Syntax.{PlainItem};
-    ghost use Rattle.cml_check.specs.SyntaxCodes.{plain_item_code};
+    ghost use Rattle.std.specs.{Prelude.{ℕ, map}, String.{string_bytes}};
+    ghost use Rattle.cml_check.specs.{Syntax.{PlainItem}, SyntaxCodes.{plain_item_code}};
 
     ghost Value = { PlainItem ℕ };
 
@@ -47,8 +40,7 @@ impl Model for Function {
     } };
 
     ghost use Rattle.std.specs.Prelude.{◌≡◌};
-    ghost use Rattle.cml_check.specs.InstrViews.{plain_instr};
-    ghost use Rattle.cml_check.specs.Layout.{code_of};
+    ghost use Rattle.cml_check.specs.{InstrViews.{plain_instr}, Layout.{code_of}};
 
     ghost invariant = { λ a. map plain_instr a.code.items ≡ code_of a.body };
 }
@@ -107,10 +99,8 @@ pub struct Prog {
 }
 
 impl Model for Prog {
-    ghost use Rattle.std.specs.Prelude.{ℕ, List};
-    ghost use Rattle.std.specs.Coded.{coded_list};
-    ghost use Rattle.cml_check.specs.Syntax.{PlainItem};
-    ghost use Rattle.cml_check.specs.SyntaxCodes.{plain_item_code};
+    ghost use Rattle.std.specs.{Prelude.{ℕ, List}, Coded.{coded_list}};
+    ghost use Rattle.cml_check.specs.{Syntax.{PlainItem}, SyntaxCodes.{plain_item_code}};
 
     ghost Value = { List (PlainItem ℕ) };
 

@@ -1,7 +1,6 @@
 //! Equality of structure.
 
-ghost use Rattle.std.specs.Prelude.{◌≡◌, ◌↔◌, IsTrue, map};
-ghost use Rattle.std.specs.String.{string_bytes};
+ghost use Rattle.std.specs.{Prelude.{◌≡◌, ◌↔◌, IsTrue, map}, String.{string_bytes}};
 ghost use Rattle.cml_check.specs.StmtViews.{plain_effect, plain_source};
 
 use crate::program::{Function, Prog};

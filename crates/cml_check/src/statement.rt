@@ -2,11 +2,10 @@
 
 ghost use Rattle.std.specs.Prelude.{◌≡◌, OnOk};
 ghost use Rattle.cml_text.specs.Forms.{plain_forms, span_of};
-ghost use Rattle.cml_check.specs.Checked.{Finds};
-ghost use Rattle.cml_check.specs.Statements as spec;
-ghost use Rattle.cml_check.specs.Statements.{statement_counted, stmt_in, stmt_by, block_in, behind_do, stmts_in};
+ghost use Rattle.cml_check.specs.{Checked.{Finds}, Statements.{statement_counted, stmt_in, stmt_by, block_in, behind_do, stmts_in}};
 ghost use Rattle.cml_check.specs.Returned.{FindsStmt, FindsStmts, StmtIsInOrder, StmtsAreInOrder};
 ghost use Rattle.cml_check.specs.StatementParts.{Grows, let_of, let_in, set_in, if_of, if_in, tested_of, tested_in, return_in, do_in};
+ghost use Rattle.cml_check.specs.Statements as spec;
 
 use crate::effect::{effect, source};
 use crate::expression::expression;

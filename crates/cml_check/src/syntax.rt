@@ -160,8 +160,7 @@ pub struct Block {
 
 impl Model for Expr {
     ghost use Rattle.std.specs.Prelude.{ℕ};
-    ghost use Rattle.cml_check.specs.Syntax.{PlainExpr, expr_depth};
-    ghost use Rattle.cml_check.specs.SyntaxCodes.{expr_code};
+    ghost use Rattle.cml_check.specs.{Syntax.{PlainExpr, expr_depth}, SyntaxCodes.{expr_code}};
 
     ghost Value = { PlainExpr ℕ };
 
@@ -180,8 +179,7 @@ impl Model for Expr {
 
 impl Model for Exprs {
     ghost use Rattle.std.specs.Prelude.{ℕ};
-    ghost use Rattle.cml_check.specs.Syntax.{PlainExprs, exprs, exprs_depth};
-    ghost use Rattle.cml_check.specs.SyntaxCodes.{exprs_code};
+    ghost use Rattle.cml_check.specs.{Syntax.{PlainExprs, exprs, exprs_depth}, SyntaxCodes.{exprs_code}};
 
     ghost Value = { PlainExprs ℕ };
 
@@ -199,8 +197,7 @@ impl Model for Exprs {
 
 impl Model for Stmt {
     ghost use Rattle.std.specs.Prelude.{ℕ};
-    ghost use Rattle.cml_check.specs.Syntax.{PlainStmt, stmt_depth};
-    ghost use Rattle.cml_check.specs.SyntaxCodes.{stmt_code};
+    ghost use Rattle.cml_check.specs.{Syntax.{PlainStmt, stmt_depth}, SyntaxCodes.{stmt_code}};
 
     ghost Value = { PlainStmt ℕ };
 
@@ -219,8 +216,7 @@ impl Model for Stmt {
 
 impl Model for Block {
     ghost use Rattle.std.specs.Prelude.{ℕ};
-    ghost use Rattle.cml_check.specs.Syntax.{PlainStmts, stmts, stmts_depth};
-    ghost use Rattle.cml_check.specs.SyntaxCodes.{stmts_code};
+    ghost use Rattle.cml_check.specs.{Syntax.{PlainStmts, stmts, stmts_depth}, SyntaxCodes.{stmts_code}};
 
     ghost Value = { PlainStmts ℕ };
 

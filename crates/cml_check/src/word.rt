@@ -1,7 +1,6 @@
 //! The keywords of a script.
 
-ghost use Rattle.std.specs.Prelude.{◌≡◌, find};
-ghost use Rattle.std.specs.Str.{bytes_eq};
+ghost use Rattle.std.specs.{Prelude.{◌≡◌, find}, Str.{bytes_eq}};
 ghost use Rattle.cml_check.specs.Words as spec;
 
 use crate::syntax::{Act, ActOnOne, ActOnTwo, Binary, Constant, Unary};

@@ -1,19 +1,16 @@
 //! What a commit shows.
 
-ghost use Rattle.std.specs.Prelude.{◌≡◌, ◌++◌, ◌∷◌, [], IfOk, OnOk, map, codes, option_copied, unwrap_or};
+ghost use Rattle.std.specs.{Prelude.{◌≡◌, ◌++◌, ◌∷◌, [], IfOk, OnOk, map, codes, option_copied, unwrap_or}, List.{flat_map}, Option.{option_map}};
 ghost use Rattle.cml_value.specs.Value.{unit};
-ghost use Rattle.std.specs.List.{flat_map};
-ghost use Rattle.std.specs.Option.{option_map};
 ghost use Rattle.cml_group.specs.Leaves.{numbers};
 ghost use Rattle.cml_channel.specs.Handed.{handed};
 ghost use Rattle.cml_phrase.specs.Phrases.{value_words};
-ghost use Rattle.cml_narrative.specs.Commits.{and_number, fired_at};
-ghost use Rattle.cml_narrative.specs.Views.{plain_taken};
+ghost use Rattle.cml_narrative.specs.{Commits.{and_number, fired_at}, Views.{plain_taken}};
 ghost use Rattle.cml_book.specs.Commit.{given};
+ghost use Rattle.cml_draw.specs.Views.{plain_draft};
 ghost use Rattle.cml_draw.specs.Commits as spec;
 ghost use Rattle.cml_draw.specs.Drafts as drawn;
 ghost use Rattle.cml_draw.specs.Singles as alone;
-ghost use Rattle.cml_draw.specs.Views.{plain_draft};
 
 use crate::draft::{Draft, cut, led_draft, own_draft};
 use crate::single::{push_held_value, push_single};

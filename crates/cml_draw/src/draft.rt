@@ -1,8 +1,8 @@
 //! What a picture shows, before it has a place in it.
 
 ghost use Rattle.std.specs.Prelude.{◌≡◌, IfOk};
-ghost use Rattle.cml_draw.specs.Drafts as spec;
 ghost use Rattle.cml_draw.specs.Views.{plain_draft};
+ghost use Rattle.cml_draw.specs.Drafts as spec;
 
 use cml_chart::Shape;
 use cml_place::push_first;

@@ -2,10 +2,8 @@
 
 ghost use Rattle.std.specs.Prelude.{◌≡◌, ℕ, ◌||◌, nat_le, IfOk, OnOk};
 ghost use Rattle.cml_hub.specs.Runs.{terminal};
+ghost use Rattle.cml_draw.specs.{Parts.{acts, flag_at, takes_part}, Turns.{began_with, thread_count}, Views.{plain_sheet}};
 ghost use Rattle.cml_draw.specs.Lives as spec;
-ghost use Rattle.cml_draw.specs.Parts.{acts, flag_at, takes_part};
-ghost use Rattle.cml_draw.specs.Turns.{began_with, thread_count};
-ghost use Rattle.cml_draw.specs.Views.{plain_sheet};
 
 use crate::flags::{flags_of, is_set};
 use crate::mark::{add_head, add_left};

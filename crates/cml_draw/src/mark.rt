@@ -4,9 +4,8 @@ ghost use Rattle.std.specs.Prelude.{◌≡◌, ◌≤◌, ◌*◌, ◌+◌, IfOk
 ghost use Rattle.cml_chart.specs.Marks as mark;
 ghost use Rattle.cml_phrase.specs.Events.{event_limit};
 ghost use Rattle.cml_narrative.specs.Commits.{named};
+ghost use Rattle.cml_draw.specs.{Turns.{began_with}, Views.{plain_sheet}};
 ghost use Rattle.cml_draw.specs.Lives as spec;
-ghost use Rattle.cml_draw.specs.Turns.{began_with};
-ghost use Rattle.cml_draw.specs.Views.{plain_sheet};
 
 use crate::draft::{cut, own_draft};
 use crate::name::{head_words, thread_words};

@@ -3,8 +3,8 @@
 ghost use Rattle.std.specs.Prelude.{◌≡◌, ◌++◌, IfOk, OnOk, option_copied, slice_get};
 ghost use Rattle.cml_phrase.specs.Phrases.{behind_thread};
 ghost use Rattle.cml_narrative.specs.Commits.{named};
-ghost use Rattle.cml_draw.specs.Heads as spec;
 ghost use Rattle.cml_draw.specs.Turns.{began_with};
+ghost use Rattle.cml_draw.specs.Heads as spec;
 
 use cml_hub::Hub;
 use cml_phrase::{Who, push_began, push_thread};

@@ -2,8 +2,8 @@
 
 ghost use Rattle.std.specs.Prelude.{◌≡◌, ◌≤◌, IfErr, IfOk, OnOk, map};
 ghost use Rattle.cml_chart.specs.Views.{plain_mark};
-ghost use Rattle.cml_draw.specs.Sheets as spec;
 ghost use Rattle.cml_draw.specs.Views.{plain_draft, plain_sheet};
+ghost use Rattle.cml_draw.specs.Sheets as spec;
 
 use crate::draft::Draft;
 use crate::fault::DrawFault;

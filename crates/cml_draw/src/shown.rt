@@ -1,14 +1,11 @@
 //! Which items are shown, and what they show.
 
 ghost use Rattle.std.specs.Prelude.{◌≡◌, ◌+◌, ◌∷◌, [], IfOk, IfErr, OnOk, drop, length, take};
-ghost use Rattle.cml_hub.specs.Courses.{Adds};
-ghost use Rattle.cml_hub.specs.Kept.{NoneOut};
+ghost use Rattle.cml_hub.specs.{Courses.{Adds}, Kept.{NoneOut}};
 ghost use Rattle.cml_narrative.specs.Tellers.{tale_of, Knows};
-ghost use Rattle.cml_draw.specs.Draws as spec;
-ghost use Rattle.cml_draw.specs.Draws.{IsRangeShown, ItemsLead, IsNotDrawn, Shows};
-ghost use Rattle.cml_draw.specs.Sheets.{blank_sheet};
-ghost use Rattle.cml_draw.specs.Stops.{Halts, HaltsOf, Stops, StopsOf};
+ghost use Rattle.cml_draw.specs.{Draws.{IsRangeShown, ItemsLead, IsNotDrawn, Shows}, Sheets.{blank_sheet}, Stops.{Halts, HaltsOf, Stops, StopsOf}};
 ghost use Rattle.cml_draw.specs.Views.{plain_sheet};
+ghost use Rattle.cml_draw.specs.Draws as spec;
 
 use crate::fault::DrawFault;
 use crate::sheet::Sheet;

@@ -1,8 +1,8 @@
 //! What an item shows, by the hub before and behind it.
 
 ghost use Rattle.std.specs.Prelude.{◌≡◌, ◌++◌, ◌∷◌, [], IfOk, OnOk, map, drop, option_map};
-ghost use Rattle.cml_draw.specs.Turns as spec;
 ghost use Rattle.cml_draw.specs.Views.{plain_draft};
+ghost use Rattle.cml_draw.specs.Turns as spec;
 
 use crate::commit::commit_drafts;
 use crate::draft::{Draft, cut, led_draft, own_draft};

@@ -1,13 +1,11 @@
 //! The picture of a schedule.
 
-ghost use Rattle.std.specs.Prelude.{◌≡◌, [], IfOk, IfErr, length};
-ghost use Rattle.std.specs.Fmt.{decimal};
+ghost use Rattle.std.specs.{Prelude.{◌≡◌, [], IfOk, IfErr, length}, Fmt.{decimal}};
 ghost use Rattle.cml_chart.specs.WellFormed.{IsWellFormed};
 ghost use Rattle.cml_hub.specs.Kept.{NoneOut};
 ghost use Rattle.cml_narrative.specs.Tales.{Tale};
+ghost use Rattle.cml_draw.specs.{Draws.{Draws, IsNotDrawn}, Views.{plain_sheet}};
 ghost use Rattle.cml_draw.specs.Draws as spec;
-ghost use Rattle.cml_draw.specs.Draws.{Draws, IsNotDrawn};
-ghost use Rattle.cml_draw.specs.Views.{plain_sheet};
 
 use crate::fault::DrawFault;
 use crate::life::add_lines;

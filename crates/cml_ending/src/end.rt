@@ -1,11 +1,9 @@
 //! How a run ended, in words.
 
 ghost use Rattle.std.specs.Prelude.{◌≡◌, ◌==◌, if◌then◌else◌, ◌+◌, ◌++◌, ◌≤◌, IfOk, OnOk, length};
-ghost use Rattle.cml_hub.specs.Runs.{ending};
-ghost use Rattle.cml_hub.specs.Courses.{run_of};
-ghost use Rattle.cml_ending.specs.Views.{plain_stage};
+ghost use Rattle.cml_hub.specs.{Runs.{ending}, Courses.{run_of}};
+ghost use Rattle.cml_ending.specs.{Views.{plain_stage}, Ends.{EndsSo}};
 ghost use Rattle.cml_ending.specs.Ends as spec;
-ghost use Rattle.cml_ending.specs.Ends.{EndsSo};
 
 use crate::head::push_head;
 use crate::line::{Stage, push_lines};

@@ -1,7 +1,6 @@
 //! The first line of what is said of a run that has ended.
 
-ghost use Rattle.std.specs.Prelude.{◌≡◌, ◌++◌, [], Some, OnOk, IfOk};
-ghost use Rattle.std.specs.String.{string_bytes};
+ghost use Rattle.std.specs.{Prelude.{◌≡◌, ◌++◌, [], Some, OnOk, IfOk}, String.{string_bytes}};
 ghost use Rattle.cml_schedule.specs.Written.{item_line, taken_row_line};
 ghost use Rattle.cml_ending.specs.Heads as spec;
 

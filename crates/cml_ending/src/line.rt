@@ -1,11 +1,10 @@
 //! The line of a thread that is left when a run has ended.
 
-ghost use Rattle.std.specs.Prelude.{◌≡◌, ◌++◌, ◌<◌, ◌≤◌, OnOk, Some, map, length, slice_get};
-ghost use Rattle.std.specs.Option.{option_and_then};
-ghost use Rattle.cml_ending.specs.Standings as standings;
-ghost use Rattle.cml_scan.specs.World.{PlainThread};
+ghost use Rattle.std.specs.{Prelude.{◌≡◌, ◌++◌, ◌<◌, ◌≤◌, OnOk, Some, map, length, slice_get}, Option.{option_and_then}};
 ghost use Rattle.cml_ending.specs.Views.{plain_stage};
+ghost use Rattle.cml_ending.specs.Standings as standings;
 ghost use Rattle.cml_ending.specs.Lines as spec;
+ghost use Rattle.cml_scan.specs.World.{PlainThread};
 
 use crate::standing::Spot;
 use crate::state::who_is;

@@ -1,8 +1,7 @@
 //! For which thread each thread waits.
 
-ghost use Rattle.std.specs.Prelude.{◌≡◌, IfOk, take, length, map};
+ghost use Rattle.std.specs.{Prelude.{◌≡◌, IfOk, take, length, map}, Prelude.{Some, slice_get}};
 ghost use Rattle.cml_scan.specs.World.{PlainThread};
-ghost use Rattle.std.specs.Prelude.{Some, slice_get};
 ghost use Rattle.cml_value.specs.Group.{bases as bases_of};
 ghost use Rattle.cml_ending.specs.Takes.{taker_in};
 ghost use Rattle.cml_ending.specs.Rings as spec;

@@ -1,11 +1,9 @@
 //! A schedule is gone through once more.
 
-ghost use Rattle.std.specs.Prelude.{◌≡◌, ℕ, None, true, false, IfOk, OnOk, Some, slice_get, ◌⊎◌, ◌∷◌, ◌++◌, []};
+ghost use Rattle.std.specs.{Prelude.{◌≡◌, ℕ, None, true, false, IfOk, OnOk, Some, slice_get, ◌⊎◌, ◌∷◌, ◌++◌, []}, List.{list_any}};
 ghost use Rattle.cml_scan.specs.World.{PlainThread};
-ghost use Rattle.std.specs.List.{list_any};
 ghost use Rattle.cml_step.specs.Calls.{text_of};
-ghost use Rattle.cml_hub.specs.Kept.{NoneOut};
-ghost use Rattle.cml_hub.specs.Runs.{is_allowed};
+ghost use Rattle.cml_hub.specs.{Kept.{NoneOut}, Runs.{is_allowed}};
 ghost use Rattle.cml_value.specs.Group.{bases};
 ghost use Rattle.cml_ending.specs.Takes.{taker_in, KnowsTakers};
 ghost use Rattle.cml_ending.specs.Waits as waits;

@@ -1,7 +1,6 @@
 //! Threads that wait for one another in a ring.
 
-ghost use Rattle.std.specs.Prelude.{◌≡◌, ◌++◌, IfOk, OnOk, option_map};
-ghost use Rattle.std.specs.List.{flat_map};
+ghost use Rattle.std.specs.{Prelude.{◌≡◌, ◌++◌, IfOk, OnOk, option_map}, List.{flat_map}};
 ghost use Rattle.cml_ending.specs.Rings as spec;
 
 use crate::words::push_number;

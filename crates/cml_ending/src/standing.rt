@@ -1,13 +1,11 @@
 //! Where a thread stands.
 
-ghost use Rattle.std.specs.Prelude.{◌≡◌, ◌<◌, ℕ, None, Some, IfOk, MatchOption, length, slice_get};
-ghost use Rattle.std.specs.Option.{option_and_then};
+ghost use Rattle.std.specs.{Prelude.{◌≡◌, ◌<◌, ℕ, None, Some, IfOk, MatchOption, length, slice_get}, Option.{option_and_then}};
 ghost use Rattle.cml_check.specs.Syntax.{PlainItem};
-ghost use Rattle.cml_step.specs.Machines.{plain_held};
-ghost use Rattle.cml_step.specs.Shared.{plain_seen};
+ghost use Rattle.cml_step.specs.{Machines.{plain_held}, Shared.{plain_seen}};
 ghost use Rattle.cml_step.specs.declared.entry.Entry.TheVariants as entry;
-ghost use Rattle.cml_ending.specs.Standings as spec;
 ghost use Rattle.cml_ending.specs.Standings.{AreSpots, IsSpotOf};
+ghost use Rattle.cml_ending.specs.Standings as spec;
 
 use cml_check::Prog;
 use cml_hub::Hub;

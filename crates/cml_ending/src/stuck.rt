@@ -1,8 +1,6 @@
 //! Whether a run is stuck.
 
-ghost use Rattle.std.specs.Prelude.{◌≡◌, ◌==◌, Some, slice_get};
-ghost use Rattle.std.specs.List.{list_any};
-ghost use Rattle.std.specs.Option.{option_copied};
+ghost use Rattle.std.specs.{Prelude.{◌≡◌, ◌==◌, Some, slice_get}, List.{list_any}, Option.{option_copied}};
 ghost use Rattle.cml_scan.specs.World.{PlainThread};
 ghost use Rattle.cml_hub.specs.Deeds.{origins};
 ghost use Rattle.cml_step.specs.Calls.{text_of};

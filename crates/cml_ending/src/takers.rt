@@ -1,10 +1,9 @@
 //! Which thread took from an M-variable last.
 
-ghost use Rattle.std.specs.Prelude.{◌≡◌, ℕ, ◌<◌, None, ◌∷◌, ◌++◌, [], length, IfOk, OnOk, OnErr};
-ghost use Rattle.std.specs.Option.{option_and_then, option_or};
+ghost use Rattle.std.specs.{Prelude.{◌≡◌, ℕ, ◌<◌, None, ◌∷◌, ◌++◌, [], length, IfOk, OnOk, OnErr}, Option.{option_and_then, option_or}};
 ghost use Rattle.cml_step.specs.Calls.{text_of};
-ghost use Rattle.cml_ending.specs.Takes as spec;
 ghost use Rattle.cml_ending.specs.Takes.{taker_in, KnowsTakers};
+ghost use Rattle.cml_ending.specs.Takes as spec;
 
 use cml_hub::{Hub, Item};
 use cml_scan::{Meet, leaf_bases};

@@ -3,8 +3,7 @@
 ghost use Rattle.std.specs.Prelude.{◌≡◌, ◌++◌, IfOk, OnOk, map, take};
 ghost use Rattle.cml_hub.specs.Deeds.{origins};
 ghost use Rattle.cml_step.specs.Calls.{text_of};
-ghost use Rattle.cml_phrase.specs.Events.{event_limit};
-ghost use Rattle.cml_phrase.specs.Views.{plain_told};
+ghost use Rattle.cml_phrase.specs.{Events.{event_limit}, Views.{plain_told}};
 ghost use Rattle.cml_ending.specs.Takes.{taker_in};
 ghost use Rattle.cml_ending.specs.Waits as spec;
 

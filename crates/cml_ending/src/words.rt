@@ -1,7 +1,6 @@
 //! Numbers in a text.
 
-ghost use Rattle.std.specs.Prelude.{◌≡◌, ◌++◌, OnOk};
-ghost use Rattle.std.specs.Fmt.{decimal};
+ghost use Rattle.std.specs.{Prelude.{◌≡◌, ◌++◌, OnOk}, Fmt.{decimal}};
 ghost use Rattle.cml_ending.specs.Lines as spec;
 
 use std::alloc::{AllocError, Global};

@@ -1,7 +1,6 @@
 //! The keywords of a script, and what each takes.
 
-ghost use Rattle.std.specs.Prelude.{◌≡◌, find, map};
-ghost use Rattle.std.specs.Str.{bytes_eq};
+ghost use Rattle.std.specs.{Prelude.{◌≡◌, find, map}, Str.{bytes_eq}};
 ghost use Rattle.cml_explain.specs.Keywords.{keyword_entry, every_keyword, keyword_spelled};
 
 /// What a keyword begins.

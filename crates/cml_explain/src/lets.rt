@@ -1,12 +1,9 @@
 //! The names that a function declares.
 
-ghost use Rattle.std.specs.Prelude.{◌≡◌, ◌++◌, IfOk, OnOk, find, map};
-ghost use Rattle.std.specs.Option.{option_map, option_to_list};
-ghost use Rattle.std.specs.Str.{bytes_eq};
+ghost use Rattle.std.specs.{Prelude.{◌≡◌, ◌++◌, IfOk, OnOk, find, map}, Option.{option_map, option_to_list}, Str.{bytes_eq}};
 ghost use Rattle.cml_text.specs.Forms.{span_of, plain_forms};
+ghost use Rattle.cml_explain.specs.{Pieces.{item_parameters}, LetViews.{plain_declared, all_declared}};
 ghost use Rattle.cml_explain.specs.Lets as spec;
-ghost use Rattle.cml_explain.specs.Pieces.{item_parameters};
-ghost use Rattle.cml_explain.specs.LetViews.{plain_declared, all_declared};
 
 use crate::near::{is_close, is_next};
 use crate::piece::{item_parameters, name_spelled};

@@ -1,7 +1,6 @@
 //! What is said of each trouble.
 
-ghost use Rattle.std.specs.Prelude.{◌≡◌, ◌++◌, IfOk, OnOk};
-ghost use Rattle.std.specs.String.{string_bytes};
+ghost use Rattle.std.specs.{Prelude.{◌≡◌, ◌++◌, IfOk, OnOk}, String.{string_bytes}};
 ghost use Rattle.cml_explain.specs.Messages as spec;
 
 use crate::keyword::{Keyword, Layout};

@@ -1,9 +1,8 @@
 //! Which of several names is nearest to one.
 
-ghost use Rattle.std.specs.Prelude.{◌≡◌, drop, find};
-ghost use Rattle.std.specs.Str.{bytes_eq};
-ghost use Rattle.cml_explain.specs.Nearest as spec;
+ghost use Rattle.std.specs.{Prelude.{◌≡◌, drop, find}, Str.{bytes_eq}};
 ghost use Rattle.cml_explain.specs.Keywords.{every_keyword};
+ghost use Rattle.cml_explain.specs.Nearest as spec;
 
 use crate::keyword::{Keyword, keywords};
 

@@ -1,14 +1,10 @@
 //! What is added to what is said of a script.
 
-ghost use Rattle.std.specs.Prelude.{◌≡◌, ◌++◌, IfOk, find};
-ghost use Rattle.std.specs.Option.{option_map};
+ghost use Rattle.std.specs.{Prelude.{◌≡◌, ◌++◌, IfOk, find}, Option.{option_map}, Str.{bytes_eq}};
 ghost use Rattle.cml_place.specs.Diagnoses.{plain_note};
-ghost use Rattle.cml_explain.specs.Notes as spec;
-ghost use Rattle.std.specs.Str.{bytes_eq};
-ghost use Rattle.cml_explain.specs.Nearest.{keyword_near};
-ghost use Rattle.cml_explain.specs.Pieces.{name_spelled, item_named, item_near};
-ghost use Rattle.cml_explain.specs.Stands.{item_over};
+ghost use Rattle.cml_explain.specs.{Nearest.{keyword_near}, Pieces.{name_spelled, item_named, item_near}, Stands.{item_over}};
 ghost use Rattle.cml_explain.specs.LetViews.{plain_declared, all_declared};
+ghost use Rattle.cml_explain.specs.Notes as spec;
 
 use crate::keyword::Keyword;
 use crate::lets::{Declared, declared_in, declared_named, nearest_known};

@@ -1,7 +1,6 @@
 //! What the forms of a script say.
 
-ghost use Rattle.std.specs.Prelude.{◌≡◌, find};
-ghost use Rattle.std.specs.Option.{option_map};
+ghost use Rattle.std.specs.{Prelude.{◌≡◌, find}, Option.{option_map}};
 ghost use Rattle.cml_explain.specs.Pieces as spec;
 
 use crate::keyword::{Keyword, Layout, keyword_of};

@@ -1,12 +1,8 @@
 //! What is wrong with a script, in words.
 
-ghost use Rattle.std.specs.Prelude.{◌≡◌, IfOk, map};
-ghost use Rattle.std.specs.String.{string_bytes};
-ghost use Rattle.std.specs.Option.{option_map, option_to_list};
+ghost use Rattle.std.specs.{Prelude.{◌≡◌, IfOk, map}, String.{string_bytes}, Option.{option_map, option_to_list}};
 ghost use Rattle.cml_place.specs.Diagnoses.{plain_note, plain_diagnosis};
-ghost use Rattle.cml_explain.specs.Pieces.{name_said, item_named};
-ghost use Rattle.cml_explain.specs.Stands.{standing_at};
-ghost use Rattle.cml_explain.specs.StandViews.{plain_stand};
+ghost use Rattle.cml_explain.specs.{Pieces.{name_said, item_named}, Stands.{standing_at}, StandViews.{plain_stand}};
 ghost use Rattle.cml_explain.specs.ScriptExplained as spec;
 
 use crate::message::{arity_message, message_of};

@@ -1,10 +1,9 @@
 //! Where a form stands in a script.
 
-ghost use Rattle.std.specs.Prelude.{◌≡◌};
-ghost use Rattle.std.specs.Option.{option_map};
+ghost use Rattle.std.specs.{Prelude.{◌≡◌}, Option.{option_map}};
 ghost use Rattle.cml_text.specs.Forms.{plain_forms};
-ghost use Rattle.cml_explain.specs.Stands as spec;
 ghost use Rattle.cml_explain.specs.StandViews.{plain_stand};
+ghost use Rattle.cml_explain.specs.Stands as spec;
 
 use crate::keyword::Layout;
 use crate::piece::{head_of, layout_of};

@@ -1,6 +1,5 @@
 //! What is wrong with a text: a diagnosis for each of its faults, shown.
-ghost use Rattle.std.specs.Prelude.{◌≡◌, ◌+◌, ◌^◌, ◌<◌, ◌∷◌, [], None, IfOk, length, map, drop};
-ghost use Rattle.std.specs.List.{prefix_len};
+ghost use Rattle.std.specs.{Prelude.{◌≡◌, ◌+◌, ◌^◌, ◌<◌, ◌∷◌, [], None, IfOk, length, map, drop}, List.{prefix_len}};
 ghost use Rattle.cml_text.specs.Lexemes as lexemes;
 ghost use Rattle.cml_place.specs.Diagnoses.{plain_note, plain_diagnosis};
 ghost use Rattle.cml_explain.specs.Texts as spec;

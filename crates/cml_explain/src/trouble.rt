@@ -1,8 +1,8 @@
 //! What is wrong with a form.
 
 ghost use Rattle.std.specs.Prelude.{◌≡◌};
-ghost use Rattle.cml_explain.specs.Troubles as spec;
 ghost use Rattle.cml_explain.specs.StandViews.{plain_stand};
+ghost use Rattle.cml_explain.specs.Troubles as spec;
 
 use crate::keyword::{Keyword, Sort};
 use crate::piece::{Head, head_from, head_of};

@@ -2,9 +2,8 @@
 
 ghost use Rattle.std.specs.Prelude.{◌≡◌, ◌++◌, ◌≤◌, ◌+◌, ◌^◌, ℕ, List, IfOk, OnOk, map};
 ghost use Rattle.cml_hub.specs.Kept.{IsBudget};
+ghost use Rattle.cml_explore.specs.{Answers.{LeftBy, LeftBySeed, ClassSaid, RankSaid, AllSaid, IsToldOfRuns}, ClassViews.{plain_class}};
 ghost use Rattle.cml_explore.specs.Answers as spec;
-ghost use Rattle.cml_explore.specs.Answers.{LeftBy, LeftBySeed, ClassSaid, RankSaid, AllSaid, IsToldOfRuns};
-ghost use Rattle.cml_explore.specs.ClassViews.{plain_class};
 
 use crate::classes::{Class, Classes};
 use crate::explored::{Asked, Explored};

@@ -1,11 +1,8 @@
 //! Runs in classes of those that ended alike.
 
-ghost use Rattle.std.specs.Prelude.{◌≡◌, ◌<◌, ◌+◌, ◌^◌, ◌++◌, ◌∷◌, ◌==◌, false, [], OnOk, OnErr, Some, map, length, slice_get};
-ghost use Rattle.std.specs.List.{All, list_any};
-ghost use Rattle.cml_explore.specs.Details.{alike};
+ghost use Rattle.std.specs.{Prelude.{◌≡◌, ◌<◌, ◌+◌, ◌^◌, ◌++◌, ◌∷◌, ◌==◌, false, [], OnOk, OnErr, Some, map, length, slice_get}, List.{All, list_any}};
+ghost use Rattle.cml_explore.specs.{Details.{alike}, ClassViews.{plain_class}, Merges.{runs_of, class_joined, classes_merged}};
 ghost use Rattle.cml_explore.specs.Classes as spec;
-ghost use Rattle.cml_explore.specs.ClassViews.{plain_class};
-ghost use Rattle.cml_explore.specs.Merges.{runs_of, class_joined, classes_merged};
 
 use crate::detail::Detail;
 use crate::tally::Tally;

@@ -1,16 +1,13 @@
 //! The details of how the run of a hub ended.
 
-ghost use Rattle.std.specs.Prelude.{◌≡◌, ◌++◌, ◌∷◌, None, Some, OnOk, IfOk, MatchOption, map, slice_get};
-ghost use Rattle.std.specs.Option.{option_and_then, option_copied};
+ghost use Rattle.std.specs.{Prelude.{◌≡◌, ◌++◌, ◌∷◌, None, Some, OnOk, IfOk, MatchOption, map, slice_get}, Option.{option_and_then, option_copied}};
 ghost use Rattle.cml_scan.specs.World.{PlainThread};
 ghost use Rattle.cml_value.specs.Group.{bases as bases_of};
-ghost use Rattle.cml_step.specs.Machines.{plain_held};
-ghost use Rattle.cml_step.specs.Shared.{plain_seen};
+ghost use Rattle.cml_step.specs.{Machines.{plain_held}, Shared.{plain_seen}};
 ghost use Rattle.cml_step.specs.declared.entry.Entry.TheVariants as entry;
 ghost use Rattle.cml_ending.specs.Standings.{as_call, top_call, call_of_machine};
-ghost use Rattle.cml_explore.specs.FallViews.{plain_fall, fall_in};
+ghost use Rattle.cml_explore.specs.{FallViews.{plain_fall, fall_in}, Details.{AreDetails}};
 ghost use Rattle.cml_explore.specs.Details as spec;
-ghost use Rattle.cml_explore.specs.Details.{AreDetails};
 
 use crate::detail::{Detail, ask_detail, end_detail, kind_detail};
 use crate::fall::{Fall, Falls, falls_of};

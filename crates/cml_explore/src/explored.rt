@@ -1,14 +1,11 @@
 //! Runs of a program by one seed after another.
 
-ghost use Rattle.std.specs.Prelude.{◌≡◌, ◌≤◌, ◌<◌, ◌+◌, ◌^◌, ◌==◌, ◌&&◌, List, ℕ, IfOk, OnOk, OnErr};
-ghost use Rattle.std.specs.List.{All};
+ghost use Rattle.std.specs.{Prelude.{◌≡◌, ◌≤◌, ◌<◌, ◌+◌, ◌^◌, ◌==◌, ◌&&◌, List, ℕ, IfOk, OnOk, OnErr}, List.{All}};
 ghost use Rattle.cml_check.specs.Syntax.{PlainItem};
 ghost use Rattle.cml_hub.specs.Kept.{IsBudget};
-ghost use Rattle.cml_explore.specs.declared.explored.Asked.{Asked};
+ghost use Rattle.cml_explore.specs.{declared.explored.Asked.{Asked}, Finishes.{PlainEnded, IsEndOf, EndsSoBy}};
+ghost use Rattle.cml_explore.specs.{Explored.{IsExplored, SoFar, HasMade, with_ended}, Merges.{FitBeside, parts_merged}};
 ghost use Rattle.cml_explore.specs.Finishes as spec;
-ghost use Rattle.cml_explore.specs.Finishes.{PlainEnded, IsEndOf, EndsSoBy};
-ghost use Rattle.cml_explore.specs.Explored.{IsExplored, SoFar, HasMade, with_ended};
-ghost use Rattle.cml_explore.specs.Merges.{FitBeside, parts_merged};
 
 use crate::classes::Classes;
 use crate::details::details_of;

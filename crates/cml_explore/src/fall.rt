@@ -1,18 +1,13 @@
 //! Where the threads of a run stood that ended at faults, and who took from M-variables last: for both the schedule is gone through once more.
 
 ghost use Rattle.std.specs.Prelude.{◌≡◌, ◌<◌, ◌==◌, ◌++◌, ◌∷◌, ℕ, [], None, Some, true, if◌then◌else◌, length, slice_get, MatchOption, IfOk, OnOk};
+ghost use Rattle.cml_step.specs.{Answers.{top_await}, Calls.{text_of}, Machines.{machine_term, Fits}};
 ghost use Rattle.cml_step.specs.Answers as answers;
-ghost use Rattle.cml_step.specs.Answers.{top_await};
-ghost use Rattle.cml_step.specs.Calls.{text_of};
-ghost use Rattle.cml_step.specs.Machines.{machine_term, Fits};
-ghost use Rattle.cml_hub.specs.Dones.{GoesOn};
-ghost use Rattle.cml_hub.specs.Kept.{NoneOut};
-ghost use Rattle.cml_hub.specs.Runs.{is_allowed};
+ghost use Rattle.cml_hub.specs.{Dones.{GoesOn}, Kept.{NoneOut}, Runs.{is_allowed}};
 ghost use Rattle.cml_schedule.specs.declared.item.Item.TheVariants as item_of;
 ghost use Rattle.cml_ending.specs.Takes.{taker_in, KnowsTakers};
 ghost use Rattle.cml_fault.specs.Failures.{failure_of};
-ghost use Rattle.cml_explore.specs.Falls.{PlainFall, IsFall, AreFalls};
-ghost use Rattle.cml_explore.specs.FallViews.{plain_fall, fall_in};
+ghost use Rattle.cml_explore.specs.{Falls.{PlainFall, IsFall, AreFalls}, FallViews.{plain_fall, fall_in}};
 
 use crate::run::let_go;
 use cml_check::Prog;

@@ -1,16 +1,11 @@
 //! Runs in which it is drawn by lot what happens next.
 
 ghost use Rattle.std.specs.Prelude.{◌≡◌, ◌++◌, Some, OnOk, IfOk, option_map, slice_get};
-ghost use Rattle.cml_scan.specs.Scan.{scan, scan_of};
-ghost use Rattle.cml_scan.specs.World.{PlainThread};
-ghost use Rattle.cml_hub.specs.Courses.{run_of};
-ghost use Rattle.cml_hub.specs.Kept.{NoneOut};
-ghost use Rattle.cml_hub.specs.Playing.{picked, spent, taking};
+ghost use Rattle.cml_scan.specs.{Scan.{scan, scan_of}, World.{PlainThread}};
+ghost use Rattle.cml_hub.specs.{Courses.{run_of}, Kept.{NoneOut}, Playing.{picked, spent, taking}};
 ghost use Rattle.cml_hub.specs.Runs as runs;
+ghost use Rattle.cml_explore.specs.{Lots.{by_lot}, Draws.{GoesDrawn, RunsDrawn}, Generators.{by_generator}};
 ghost use Rattle.cml_explore.specs.Lots as spec;
-ghost use Rattle.cml_explore.specs.Lots.{by_lot};
-ghost use Rattle.cml_explore.specs.Draws.{GoesDrawn, RunsDrawn};
-ghost use Rattle.cml_explore.specs.Generators.{by_generator};
 
 use cml_book::Book;
 use cml_hub::{Chooser, End, Hub, Item, Seeded};

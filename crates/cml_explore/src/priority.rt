@@ -1,12 +1,9 @@
 //! Runs in which priorities say what happens next.
 
 ghost use Rattle.std.specs.Prelude.{◌≡◌, ◌≤◌, ◌<◌, ◌+◌, ◌-◌, ◌^◌, ◌==◌, length, Some, OnOk, IfOk, position};
-ghost use Rattle.cml_hub.specs.Choices.{seeded};
-ghost use Rattle.cml_hub.specs.Kept.{NoneOut};
-ghost use Rattle.cml_explore.specs.Draws.{GoesDrawn, RunsDrawn};
-ghost use Rattle.cml_explore.specs.Lots.{ready_from};
+ghost use Rattle.cml_hub.specs.{Choices.{seeded}, Kept.{NoneOut}};
+ghost use Rattle.cml_explore.specs.{Draws.{GoesDrawn, RunsDrawn}, Lots.{ready_from}, Priorities.{by_priority}};
 ghost use Rattle.cml_explore.specs.Priorities as spec;
-ghost use Rattle.cml_explore.specs.Priorities.{by_priority};
 
 use crate::lot::{alarm_item, is_over, ready_threads, row_choices, row_item_by_lot};
 use cml_hub::{Chooser, Hub, Item, Seeded};

@@ -1,9 +1,8 @@
 //! Classes by size.
 
-ghost use Rattle.std.specs.Prelude.{◌≡◌, ◌<◌, IfOk, length, map};
-ghost use Rattle.std.specs.List.{All};
-ghost use Rattle.cml_explore.specs.Ranks as spec;
+ghost use Rattle.std.specs.{Prelude.{◌≡◌, ◌<◌, IfOk, length, map}, List.{All}};
 ghost use Rattle.cml_explore.specs.Ranks.{AreRanked, AreInRank};
+ghost use Rattle.cml_explore.specs.Ranks as spec;
 
 use crate::classes::Classes;
 use std::alloc::{AllocError, Global};

@@ -2,11 +2,9 @@
 
 ghost use Rattle.std.specs.Prelude.{◌≡◌, ◌<◌, IfOk, OnOk};
 ghost use Rattle.cml_step.specs.Calls.{text_of};
-ghost use Rattle.cml_hub.specs.Choices.{seeded};
-ghost use Rattle.cml_hub.specs.Kept.{IsBudget, NoneOut};
+ghost use Rattle.cml_hub.specs.{Choices.{seeded}, Kept.{IsBudget, NoneOut}};
+ghost use Rattle.cml_explore.specs.{Finishes.{IsRunWithin, IsSeedRun, IsSpan, PlaysByPriority, RunsOut}, Priorities.{points_span}};
 ghost use Rattle.cml_explore.specs.declared.order.Order.TheVariants as orders;
-ghost use Rattle.cml_explore.specs.Finishes.{IsRunWithin, IsSeedRun, IsSpan, PlaysByPriority, RunsOut};
-ghost use Rattle.cml_explore.specs.Priorities.{points_span};
 
 use crate::lot::run_by_lot;
 use crate::order::Order;

@@ -1,14 +1,11 @@
 //! Runs that are shared among threads.
 
-ghost use Rattle.std.specs.Prelude.{◌≡◌, ◌≤◌, ◌<◌, ◌+◌, ◌^◌, ℕ, List, None, Some, Ok, length, min, max, IfOk, OnOk, OnErr};
-ghost use Rattle.std.specs.List.{All};
+ghost use Rattle.std.specs.{Prelude.{◌≡◌, ◌≤◌, ◌<◌, ◌+◌, ◌^◌, ℕ, List, None, Some, Ok, length, min, max, IfOk, OnOk, OnErr}, List.{All}};
 ghost use Rattle.cml_check.specs.Syntax.{PlainItem};
 ghost use Rattle.cml_hub.specs.Kept.{IsBudget};
-ghost use Rattle.cml_explore.specs.Explored.{SoFar, HasMade};
-ghost use Rattle.cml_explore.specs.Merges as spec;
-ghost use Rattle.cml_explore.specs.declared.explored.Asked.{Asked};
-ghost use Rattle.cml_explore.specs.declared.share.Round.{Round};
+ghost use Rattle.cml_explore.specs.{Explored.{SoFar, HasMade}, declared.explored.Asked.{Asked}, declared.share.Round.{Round}};
 ghost use Rattle.cml_explore.specs.Merges.{FitBeside, HasPart, AreInside, AreParts, ArePartsPlaced, ArePartsTaken, IsPartTaken, IsRound, JoinsPart, runs_before};
+ghost use Rattle.cml_explore.specs.Merges as spec;
 
 use crate::explored::{Asked, Explored, are_all};
 use cml_check::Prog;

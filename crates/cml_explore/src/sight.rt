@@ -1,14 +1,10 @@
 //! The lines of the threads that are left when a run has ended, or ended at a fault, in short.
 
-ghost use Rattle.std.specs.Prelude.{◌≡◌, ◌++◌, ◌<◌, OnOk, IfOk, Some, map, length, slice_get};
-ghost use Rattle.std.specs.Option.{option_and_then};
+ghost use Rattle.std.specs.{Prelude.{◌≡◌, ◌++◌, ◌<◌, OnOk, IfOk, Some, map, length, slice_get}, Option.{option_and_then}};
 ghost use Rattle.cml_scan.specs.World.{PlainThread};
-ghost use Rattle.cml_ending.specs.Standings.{IsSpotOf, call_of_machine, spot_at};
-ghost use Rattle.cml_ending.specs.Lines.{spot_place};
-ghost use Rattle.cml_explore.specs.FallViews.{plain_fall, fall_in};
-ghost use Rattle.cml_explore.specs.SightViews.{plain_sight};
+ghost use Rattle.cml_ending.specs.{Standings.{IsSpotOf, call_of_machine, spot_at}, Lines.{spot_place}};
+ghost use Rattle.cml_explore.specs.{FallViews.{plain_fall, fall_in}, SightViews.{plain_sight}, ThreadLines.{AreSpotsToTell}};
 ghost use Rattle.cml_explore.specs.ThreadLines as spec;
-ghost use Rattle.cml_explore.specs.ThreadLines.{AreSpotsToTell};
 
 use crate::fall::{Fall, Falls};
 use cml_ending::{Spot, Takers, machine_spot, push_awaited, who_is};

@@ -1,12 +1,8 @@
 //! What is kept of runs that ended alike.
 
-ghost use Rattle.std.specs.Prelude.{◌≡◌, ◌<◌, ◌+◌, ◌^◌, ℕ, List, IfOk, OnOk, OnErr, length};
-ghost use Rattle.std.specs.List.{fold};
-ghost use Rattle.std.specs.Option.{option_map_or};
-ghost use Rattle.cml_explore.specs.declared.detail.Detail.{Detail};
+ghost use Rattle.std.specs.{Prelude.{◌≡◌, ◌<◌, ◌+◌, ◌^◌, ℕ, List, IfOk, OnOk, OnErr, length}, List.{fold}, Option.{option_map_or}};
+ghost use Rattle.cml_explore.specs.{declared.detail.Detail.{Detail}, Classes.{Finish}, Merges.{both_tallies, tally_alone}};
 ghost use Rattle.cml_explore.specs.Classes as spec;
-ghost use Rattle.cml_explore.specs.Classes.{Finish};
-ghost use Rattle.cml_explore.specs.Merges.{both_tallies, tally_alone};
 
 use cml_hub::Item;
 use indexmap::IndexSet;

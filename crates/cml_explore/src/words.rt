@@ -1,12 +1,9 @@
 //! The line of a class.
 
-ghost use Rattle.std.specs.Prelude.{◌≡◌, ◌++◌, IfOk, OnOk, count_by, length, replicate};
-ghost use Rattle.std.specs.Option.{option_copied};
-ghost use Rattle.std.specs.Fmt.{decimal};
+ghost use Rattle.std.specs.{Prelude.{◌≡◌, ◌++◌, IfOk, OnOk, count_by, length, replicate}, Option.{option_copied}, Fmt.{decimal}};
 ghost use Rattle.cml_ending.specs.Lines.{many};
+ghost use Rattle.cml_explore.specs.{Words.{at_left, at_right}, ClassViews.{plain_class}};
 ghost use Rattle.cml_explore.specs.Words as spec;
-ghost use Rattle.cml_explore.specs.Words.{at_left, at_right};
-ghost use Rattle.cml_explore.specs.ClassViews.{plain_class};
 
 use crate::classes::{Class, Classes};
 use crate::detail::Detail;

@@ -1,17 +1,11 @@
 //! What is said of a thread that ended at a fault.
 
-ghost use Rattle.std.specs.Prelude.{◌≡◌, ◌++◌, ℕ, List, IfOk, OnOk, IfSome, Some, None, length, slice_get};
-ghost use Rattle.std.specs.Option.{option_and_then, option_map};
+ghost use Rattle.std.specs.{Prelude.{◌≡◌, ◌++◌, ℕ, List, IfOk, OnOk, IfSome, Some, None, length, slice_get}, Option.{option_and_then, option_map}};
 ghost use Rattle.std.specs.Fmt.{decimal};
-ghost use Rattle.cml_step.specs.Calls.{text_of};
-ghost use Rattle.cml_step.specs.Machines.{machine_term, Fits};
-ghost use Rattle.cml_step.specs.AskViews.{plain_ask};
-ghost use Rattle.cml_step.specs.Answers.{top_await};
+ghost use Rattle.cml_step.specs.{Calls.{text_of}, Machines.{machine_term, Fits}, AskViews.{plain_ask}, Answers.{top_await}};
 ghost use Rattle.cml_step.specs.Answers as answers;
+ghost use Rattle.cml_fault.specs.{Blocks.{IsBlock, IsToldOf}, Failures.{failure_of}, Views.{plain_sources, IsAdded}};
 ghost use Rattle.cml_fault.specs.Blocks as spec;
-ghost use Rattle.cml_fault.specs.Blocks.{IsBlock, IsToldOf};
-ghost use Rattle.cml_fault.specs.Failures.{failure_of};
-ghost use Rattle.cml_fault.specs.Views.{plain_sources, IsAdded};
 
 use crate::frame::{Frame, calls_down, first_values, frames_of};
 use crate::variable::push_variables;

@@ -2,14 +2,9 @@
 
 ghost use Rattle.std.specs.Prelude.{◌≡◌, ◌++◌, ◌∷◌, ◌-◌, [], true, Some, IfOk, OnOk, slice_get};
 ghost use Rattle.cml_step.specs.Calls.{text_of};
-ghost use Rattle.cml_hub.specs.Kept.{NoneOut};
-ghost use Rattle.cml_hub.specs.Runs.{is_allowed};
-ghost use Rattle.cml_hub.specs.Dones.{GoesOn};
+ghost use Rattle.cml_hub.specs.{Kept.{NoneOut}, Runs.{is_allowed}, Dones.{GoesOn}};
 ghost use Rattle.cml_schedule.specs.declared.item.Item.TheVariants as item_of;
-ghost use Rattle.cml_fault.specs.Blocks.{AreBlocks};
-ghost use Rattle.cml_fault.specs.Failures.{first_failures, block_limit};
-ghost use Rattle.cml_fault.specs.Faulted.{FaultedSo, others_line};
-ghost use Rattle.cml_fault.specs.Views.{plain_sources};
+ghost use Rattle.cml_fault.specs.{Blocks.{AreBlocks}, Failures.{first_failures, block_limit}, Faulted.{FaultedSo, others_line}, Views.{plain_sources}};
 
 use crate::block::{Sources, push_failure, push_number};
 use cml_hub::{Hub, Item};

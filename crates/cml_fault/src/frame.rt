@@ -1,13 +1,10 @@
 //! The calls on a thread's stack, and where they stand.
 
-ghost use Rattle.std.specs.Prelude.{◌≡◌, ℕ, None, Some, IfOk, MatchOption, OnOk, map};
-ghost use Rattle.std.specs.Option.{option_map, option_to_list};
-ghost use Rattle.cml_step.specs.Machines.{plain_held};
-ghost use Rattle.cml_step.specs.Shared.{plain_seen};
+ghost use Rattle.std.specs.{Prelude.{◌≡◌, ℕ, None, Some, IfOk, MatchOption, OnOk, map}, Option.{option_map, option_to_list}};
+ghost use Rattle.cml_step.specs.{Machines.{plain_held}, Shared.{plain_seen}};
 ghost use Rattle.cml_step.specs.declared.entry.Entry.TheVariants as entry;
+ghost use Rattle.cml_fault.specs.{Frames.{AreFrames, IsFrame}, Views.{held_call}};
 ghost use Rattle.cml_fault.specs.Frames as spec;
-ghost use Rattle.cml_fault.specs.Frames.{AreFrames, IsFrame};
-ghost use Rattle.cml_fault.specs.Views.{held_call};
 
 use cml_check::Prog;
 use cml_step::{Call, Machine, Seen};

@@ -3,8 +3,7 @@
 
 ghost use Rattle.std.specs.Prelude.{◌≡◌, ◌<◌, true, length, slice_get};
 ghost use Rattle.cml_value.specs.Group.{groups, leaf, leaf_count};
-ghost use Rattle.cml_group.specs.LaidOut.{is_bare, is_bare_leaf, are_bare_leaves, is_bare_choice, is_flat};
-ghost use Rattle.cml_group.specs.Leaves.{leaf_base};
+ghost use Rattle.cml_group.specs.{LaidOut.{is_bare, is_bare_leaf, are_bare_leaves, is_bare_choice, is_flat}, Leaves.{leaf_base}};
 
 use cml_value::{Base, BaseKind, Group, GroupKind};
 

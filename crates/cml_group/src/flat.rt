@@ -1,11 +1,8 @@
 //! A group laid flat.
 
-ghost use Rattle.std.specs.Prelude.{◌≡◌, ◌≤◌, ◌<◌, length, map, filter, slice_get, [], OnOk, IfOk, IfErr};
-ghost use Rattle.std.specs.Vec.{vec_capacity};
+ghost use Rattle.std.specs.{Prelude.{◌≡◌, ◌≤◌, ◌<◌, length, map, filter, slice_get, [], OnOk, IfOk, IfErr}, Vec.{vec_capacity}};
 ghost use Rattle.cml_value.specs.Group.{PlainGroup, leaf_count, scopes, nacks_of, lies_outside, lost};
-ghost use Rattle.cml_group.specs.Leaves.{pick, leaf_base, leaf_wraps, numbers};
-ghost use Rattle.cml_group.specs.LaidOut.{IsWithinLimits, IsLaidOut};
-ghost use Rattle.cml_group.specs.Faults.{Refuses};
+ghost use Rattle.cml_group.specs.{Leaves.{pick, leaf_base, leaf_wraps, numbers}, LaidOut.{IsWithinLimits, IsLaidOut}, Faults.{Refuses}};
 
 use crate::bare::{is_flat, own_base, own_count, own_leaf};
 use crate::fault::FlatFault;
@@ -33,11 +30,9 @@ struct Lists {
 }
 
 impl Model for Flat {
-    ghost use Rattle.std.specs.Prelude.{◌≡◌, ◌≤◌, true, IfSome, IfNone};
-    ghost use Rattle.cml_value.specs.Group.{PlainGroup, leaf_count};
-    ghost use Rattle.cml_value.specs.GroupCodes.{group_code};
+    ghost use Rattle.std.specs.{Prelude.{◌≡◌, ◌≤◌, true, IfSome, IfNone}, Vec.{vec_capacity}};
+    ghost use Rattle.cml_value.specs.{Group.{PlainGroup, leaf_count}, GroupCodes.{group_code}};
     ghost use Rattle.cml_group.specs.LaidOut.{IsLaidOut, is_flat, max_leaves};
-    ghost use Rattle.std.specs.Vec.{vec_capacity};
 
     ghost Value = { PlainGroup };
 

@@ -1,12 +1,9 @@
 //! The forcing of an event.
 
 ghost use Rattle.std.specs.Prelude.{◌≡◌, ◌↔◌, IsTrue, ◌∷◌, ◌+◌, true, Some, IfOk, IfErr, IfSome, OnOk, OnErr, is_some, MatchOption};
-ghost use Rattle.cml_value.specs.Value.{PlainFunction, PlainEvent, leaf, guard, scope};
-ghost use Rattle.cml_value.specs.Limits.{event_nodes, event_fits, max_nodes};
-ghost use Rattle.cml_group.specs.Force.{calls, needs_nack, unforced, replaced, given_nack, event_of, AwaitsEvent, AwaitsNack};
-ghost use Rattle.cml_group.specs.Asks.{Asks, RefusesAnswer};
-ghost use Rattle.cml_group.specs.Frames.{in_scope, plug};
-ghost use Rattle.cml_group.specs.FrameViews.{plain_hole, hole_ask, plain_part, IsRoomOf};
+ghost use Rattle.cml_value.specs.{Value.{PlainFunction, PlainEvent, leaf, guard, scope}, Limits.{event_nodes, event_fits, max_nodes}};
+ghost use Rattle.cml_group.specs.{Force.{calls, needs_nack, unforced, replaced, given_nack, event_of, AwaitsEvent, AwaitsNack}, Asks.{Asks, RefusesAnswer}};
+ghost use Rattle.cml_group.specs.{Frames.{in_scope, plug}, FrameViews.{plain_hole, hole_ask, plain_part, IsRoomOf}};
 
 mod done;
 mod frame;
@@ -42,8 +39,7 @@ pub struct Forcing {
 }
 
 impl Model for Forcing {
-    ghost use Rattle.cml_value.specs.Value.{PlainEvent};
-    ghost use Rattle.cml_value.specs.Codes.{event_code};
+    ghost use Rattle.cml_value.specs.{Value.{PlainEvent}, Codes.{event_code}};
 
     ghost Value = { PlainEvent };
 

@@ -1,10 +1,8 @@
 //! Choices that were forced before, so that one which comes again is shared and not made anew.
 
 ghost use Rattle.std.specs.Prelude.{◌≡◌, true, [], map, IfSome};
-ghost use Rattle.cml_group.specs.Force.{event_of};
-ghost use Rattle.cml_value.specs.Value.{events, PlainEvents};
-ghost use Rattle.cml_value.specs.Group.{groups};
-ghost use Rattle.cml_group.specs.Force.{events_of};
+ghost use Rattle.cml_group.specs.{Force.{event_of}, Force.{events_of}};
+ghost use Rattle.cml_value.specs.{Value.{events, PlainEvents}, Group.{groups}};
 
 use crate::bare::is_bare_choice;
 use crate::limit::MAX_LEAVES;
@@ -23,8 +21,7 @@ struct Choice {
 
 impl Model for Choice {
     ghost use Rattle.std.specs.Prelude.{◌≡◌, true};
-    ghost use Rattle.cml_value.specs.Group.{PlainGroup};
-    ghost use Rattle.cml_value.specs.GroupCodes.{group_code};
+    ghost use Rattle.cml_value.specs.{Group.{PlainGroup}, GroupCodes.{group_code}};
     ghost use Rattle.cml_group.specs.LaidOut.{is_bare_choice};
 
     ghost Value = { PlainGroup };

@@ -1,12 +1,9 @@
 //! Laws of the leaves, the wraps and the scopes of a group. Each is proved, and its function does nothing.
 
-ghost use Rattle.std.specs.Prelude.{◌≡◌, ℕ, ◌-◌, ◌<◌, ◌≤◌, nat_lt, if◌then◌else◌, List, [], ◌∷◌, ◌++◌, IsSome};
-ghost use Rattle.std.specs.List.{flat_map};
-ghost use Rattle.std.specs.Option.{option_map};
+ghost use Rattle.std.specs.{Prelude.{◌≡◌, ℕ, ◌-◌, ◌<◌, ◌≤◌, nat_lt, if◌then◌else◌, List, [], ◌∷◌, ◌++◌, IsSome}, List.{flat_map}, Option.{option_map}};
 ghost use Rattle.cml_value.specs.Value.{PlainBase, PlainFunction};
 ghost use Rattle.cml_value.specs.Group.{PlainGroup, never, leaf, choose, wrap, scope, groups, leaves, leaf_count, scopes, nacks_of, lost};
-ghost use Rattle.cml_group.specs.Leaves.{pick, leaf_base, leaf_wraps};
-ghost use Rattle.cml_group.specs.Laws.{FiresAt};
+ghost use Rattle.cml_group.specs.{Leaves.{pick, leaf_base, leaf_wraps}, Laws.{FiresAt}};
 
 /// The leaves of a choice are those of its members, one after another.
 pub fn choice_leaves()

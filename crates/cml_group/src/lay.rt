@@ -15,8 +15,7 @@ pub struct Leaf {
 }
 
 impl Model for Leaf {
-    ghost use Rattle.cml_value.specs.Group.{PlainLeaf};
-    ghost use Rattle.cml_value.specs.GroupCodes.{leaf_code};
+    ghost use Rattle.cml_value.specs.{Group.{PlainLeaf}, GroupCodes.{leaf_code}};
 
     ghost Value = { PlainLeaf };
 

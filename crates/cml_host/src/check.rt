@@ -1,10 +1,7 @@
 //! The command `check`: what is wrong with a script.
 
 ghost use Rattle.std.specs.Prelude.{◌≡◌, IfOk};
-ghost use Rattle.cml_host.specs.Between.{between};
-ghost use Rattle.cml_host.specs.Checked.{IsChecked, IsCounted};
-ghost use Rattle.cml_host.specs.Said.{FileOutcome};
-ghost use Rattle.cml_host.specs.Stores.{IsUnchanged};
+ghost use Rattle.cml_host.specs.{Between.{between}, Checked.{IsChecked, IsCounted}, Said.{FileOutcome}, Stores.{IsUnchanged}};
 
 use crate::refusal::refuse;
 use crate::said::{Said, finish};

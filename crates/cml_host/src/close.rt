@@ -2,9 +2,9 @@
 
 ghost use Rattle.std.specs.Prelude.{◌≡◌, IfOk, Some, false, is_some};
 ghost use Rattle.cml_host.specs.Between.{between};
-ghost use Rattle.cml_host.specs.Closed as closed;
 ghost use Rattle.cml_host.specs.Closed.{IsClosing, IsEndExplained, SaysEnd, asked_of, drawn_subject, kept_of, script_as_subject, plain_asked, plain_closing, plain_subject};
 ghost use Rattle.cml_host.specs.Scripts.{plain_script};
+ghost use Rattle.cml_host.specs.Closed as closed;
 ghost use Rattle.cml_host.specs.Told as spec;
 
 use crate::output::say;

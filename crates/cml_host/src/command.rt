@@ -1,10 +1,7 @@
 //! Which command is done.
 
-ghost use Rattle.std.specs.Prelude.{◌≡◌, ◌≤◌, map};
-ghost use Rattle.std.specs.String.{string_bytes};
-ghost use Rattle.cml_host.specs.Between.{between};
-ghost use Rattle.cml_host.specs.Statuses.{Surroundings, Ran, RanOver};
-ghost use Rattle.cml_host.specs.Stores.{Shelf};
+ghost use Rattle.std.specs.{Prelude.{◌≡◌, ◌≤◌, map}, String.{string_bytes}};
+ghost use Rattle.cml_host.specs.{Between.{between}, Statuses.{Surroundings, Ran, RanOver}, Stores.{Shelf}};
 ghost use Rattle.cml_stream.specs.Streams.{stream};
 ghost use Rattle.cml_trace.specs.Live.{max_turns};
 

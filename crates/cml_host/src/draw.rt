@@ -2,11 +2,9 @@
 
 ghost use Rattle.std.specs.Prelude.{◌≡◌, IfErr, IfOk, None, length};
 ghost use Rattle.cml_hub.specs.Kept.{IsAtStart};
-ghost use Rattle.cml_host.specs.Between.{between};
-ghost use Rattle.cml_host.specs.Closed.{plain_subject};
-ghost use Rattle.cml_host.specs.Drawn as spec;
-ghost use Rattle.cml_host.specs.Drawn.{DrawOutcome, IsDrawnBy, IsUndrawnBy, TextDrawn, too_many_told};
+ghost use Rattle.cml_host.specs.{Between.{between}, Closed.{plain_subject}, Drawn.{DrawOutcome, IsDrawnBy, IsUndrawnBy, TextDrawn, too_many_told}};
 ghost use Rattle.cml_host.specs.Stores.{IsUnchanged};
+ghost use Rattle.cml_host.specs.Drawn as spec;
 ghost use Rattle.cml_stream.specs.Streams.{Says};
 
 use crate::close::Subject;

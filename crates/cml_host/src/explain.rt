@@ -2,11 +2,10 @@
 
 ghost use Rattle.std.specs.Prelude.{◌≡◌, ◌+◌, ◌<◌, ◌^◌, [], IfOk, IfErr, OnOk, OnErr, IsTrue, None, length};
 ghost use Rattle.cml_hub.specs.Kept.{IsAtStart, NoneOut};
-ghost use Rattle.cml_host.specs.Between.{between};
-ghost use Rattle.cml_host.specs.Closed.{plain_subject};
-ghost use Rattle.cml_host.specs.Narrated as spec;
+ghost use Rattle.cml_host.specs.{Between.{between}, Closed.{plain_subject}};
 ghost use Rattle.cml_host.specs.Narrated.{ExplainOutcome, HasToldFirst, IsSetUp, IsNotSetUp, IsTellingOf, PlanTold, Spills, TextExplained, StoryCut, tale_for};
 ghost use Rattle.cml_host.specs.Stores.{IsUnchanged};
+ghost use Rattle.cml_host.specs.Narrated as spec;
 ghost use Rattle.cml_narrative.specs.Tellers.{Knows, tale_of};
 ghost use Rattle.cml_stream.specs.Streams.{stream, TakesStart};
 

@@ -1,18 +1,14 @@
 //! The command `explore`: a script runs many times, and it is told how the runs end.
 
-ghost use Rattle.std.specs.Prelude.{◌≡◌, ◌+◌, ◌≤◌, ◌<◌, ◌^◌, [], IfOk, IfErr, IfSome, OnErr, OnOk, Some, length, option_map, true};
-ghost use Rattle.std.specs.Fmt.{decimal};
-ghost use Rattle.std.specs.List.{All};
-ghost use Rattle.std.specs.String.{string_bytes};
+ghost use Rattle.std.specs.{Prelude.{◌≡◌, ◌+◌, ◌≤◌, ◌<◌, ◌^◌, [], IfOk, IfErr, IfSome, OnErr, OnOk, Some, length, option_map, true}, Fmt.{decimal}};
+ghost use Rattle.std.specs.{List.{All}, String.{string_bytes}};
 ghost use Rattle.cml_check.specs.Sizes.{size_of};
-ghost use Rattle.cml_explore.specs.Answers.{IsToldOfRuns};
-ghost use Rattle.cml_explore.specs.Explored.{HasMade, SoFar};
+ghost use Rattle.cml_explore.specs.{Answers.{IsToldOfRuns}, Explored.{HasMade, SoFar}};
 ghost use Rattle.cml_host.specs.Between.{between};
-ghost use Rattle.cml_host.specs.Exploring as spec;
 ghost use Rattle.cml_host.specs.Exploring.{AreSaved, AsksForRuns, ClassesKept, ExploreOutcome, FilesKept, IsNotSaved, MadeAll, MadeErased, MadeSome, MadeTold, NameRefused, NotShown, ProgramExplored, RunsTold, ScriptExplored, ShownFrom, SomeSaved, StopsBehind, StopsErased, StopsShowing, UnsavedTold, erased, files_from, judged, saved_start, shown_at, shown_next, stop_at};
+ghost use Rattle.cml_host.specs.{Scripts.{plain_script}, Stores.{Shelf, IsSaved}};
+ghost use Rattle.cml_host.specs.Exploring as spec;
 ghost use Rattle.cml_host.specs.Running as running;
-ghost use Rattle.cml_host.specs.Scripts.{plain_script};
-ghost use Rattle.cml_host.specs.Stores.{Shelf, IsSaved};
 ghost use Rattle.cml_hub.specs.Kept.{IsBudget};
 ghost use Rattle.cml_schedule.specs.Written.{schedule_text};
 ghost use Rattle.cml_stream.specs.Streams.{stream, Takes, TakesStart};

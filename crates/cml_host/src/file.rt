@@ -1,10 +1,8 @@
 //! Reading the bytes of a file, and saving them, over any reader and writer.
 
 ghost use Rattle.std.specs.Prelude.{◌≡◌, ◌⊎◌, ◌+◌, ◌≤◌, length, Err, IfOk, IfErr, OnOk, OnErr, None};
-ghost use Rattle.cml_host.specs.Stores.{content_of, IsLoaded, IsRefusal};
-ghost use Rattle.cml_host.specs.declared.store.StoreFault.TheVariants.{Refused};
-ghost use Rattle.cml_stream.specs.Counts.{most_reads};
-ghost use Rattle.cml_stream.specs.Streams.{stream, Takes, TakesStart};
+ghost use Rattle.cml_host.specs.{Stores.{content_of, IsLoaded, IsRefusal}, declared.store.StoreFault.TheVariants.{Refused}};
+ghost use Rattle.cml_stream.specs.{Counts.{most_reads}, Streams.{stream, Takes, TakesStart}};
 
 use crate::store::StoreFault;
 use cml_stream::Counting;

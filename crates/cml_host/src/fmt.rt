@@ -1,10 +1,7 @@
 //! The command `fmt`: the forms of a text, each on a line.
 
 ghost use Rattle.std.specs.Prelude.{◌≡◌, IfOk};
-ghost use Rattle.cml_host.specs.Between.{between};
-ghost use Rattle.cml_host.specs.Formatted.{IsPrinted};
-ghost use Rattle.cml_host.specs.Said.{FileOutcome};
-ghost use Rattle.cml_host.specs.Stores.{IsUnchanged};
+ghost use Rattle.cml_host.specs.{Between.{between}, Formatted.{IsPrinted}, Said.{FileOutcome}, Stores.{IsUnchanged}};
 
 use crate::refusal::refuse_file;
 use crate::said::{Said, finish, refuse_text};

@@ -2,8 +2,7 @@
 
 ghost use Rattle.std.specs.Prelude.{◌≡◌, ◌<◌, ◌^◌, length, IfOk, MatchBool, [], IsTrue};
 ghost use Rattle.cml_host.specs.Replaying.{IsItemExplained, IsLineBehind, SaysSomething};
-ghost use Rattle.cml_text.specs.Lines.{lines};
-ghost use Rattle.cml_text.specs.Texts.{Spells};
+ghost use Rattle.cml_text.specs.{Lines.{lines}, Texts.{Spells}};
 
 use cml_hub::{Hub, Item};
 use cml_narrative::push_why;

@@ -1,10 +1,7 @@
 //! What a command begins with that takes a script and a schedule: both are read.
 
 ghost use Rattle.std.specs.Prelude.{◌≡◌, IfErr, IfOk};
-ghost use Rattle.cml_host.specs.Between.{between};
-ghost use Rattle.cml_host.specs.Closed.{plain_subject};
-ghost use Rattle.cml_host.specs.Opening.{AreOpened, NotOpenedOutcome, AreNotOpened};
-ghost use Rattle.cml_host.specs.Stores.{IsUnchanged};
+ghost use Rattle.cml_host.specs.{Between.{between}, Closed.{plain_subject}, Opening.{AreOpened, NotOpenedOutcome, AreNotOpened}, Stores.{IsUnchanged}};
 
 use crate::close::{Subject, subject_of};
 use crate::refusal::{Refusal, refuse};

@@ -1,8 +1,7 @@
 //! Writing to the output, and saying what went wrong.
 
 ghost use Rattle.std.specs.Prelude.{◌≡◌};
-ghost use Rattle.cml_host.specs.Between.{between};
-ghost use Rattle.cml_host.specs.Written.{TextOutcome};
+ghost use Rattle.cml_host.specs.{Between.{between}, Written.{TextOutcome}};
 ghost use Rattle.cml_stream.specs.Streams.{Says};
 
 use cml_stream::Counting;

@@ -1,10 +1,7 @@
 //! The picture of a run that is over: how it is made, and how it is saved.
 
 ghost use Rattle.std.specs.Prelude.{◌≡◌, IfOk, Some, is_some, option_map, true};
-ghost use Rattle.cml_host.specs.Between.{between};
-ghost use Rattle.cml_host.specs.Closed.{drawn_subject, plain_closing, plain_subject};
-ghost use Rattle.cml_host.specs.Drawn.{AllDrawn};
-ghost use Rattle.cml_host.specs.Narrated.{Opens};
+ghost use Rattle.cml_host.specs.{Between.{between}, Closed.{drawn_subject, plain_closing, plain_subject}, Drawn.{AllDrawn}, Narrated.{Opens}};
 ghost use Rattle.cml_host.specs.Running.{IsDrawnKept, IsPictureFor, IsRefusalOf, IsRunDrawn, IsSayable, PictureKept, plain_wanted, wanted_of};
 ghost use Rattle.cml_host.specs.Stores.{Shelf};
 ghost use Rattle.cml_hub.specs.Runs.{stands};

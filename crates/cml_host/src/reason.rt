@@ -1,9 +1,8 @@
 //! Why a file can't be read or written: the reasons, in the words of the system, and the line that says one of them.
 
-ghost use Rattle.std.specs.Prelude.{◌≡◌, IfOk, Some};
-ghost use Rattle.std.specs.String.{string_bytes};
-ghost use Rattle.cml_host.specs.Said as spec;
+ghost use Rattle.std.specs.{Prelude.{◌≡◌, IfOk, Some}, String.{string_bytes}};
 ghost use Rattle.cml_host.specs.Stores.{system_words};
+ghost use Rattle.cml_host.specs.Said as spec;
 
 use std::alloc::{AllocError, Global};
 

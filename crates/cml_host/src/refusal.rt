@@ -1,8 +1,7 @@
 //! Refusals: why a command goes no further with a file, and how that is said to the errors.
 
 ghost use Rattle.std.specs.Prelude.{◌≡◌, IfOk};
-ghost use Rattle.cml_host.specs.Between.{between};
-ghost use Rattle.cml_host.specs.Said.{FaultOutcome, RefusalOutcome, unread_told};
+ghost use Rattle.cml_host.specs.{Between.{between}, Said.{FaultOutcome, RefusalOutcome, unread_told}};
 
 use crate::output::say;
 use crate::reason::{Reason, with_why};

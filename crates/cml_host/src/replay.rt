@@ -2,9 +2,7 @@
 
 ghost use Rattle.std.specs.Prelude.{◌≡◌, IfOk, IfErr, codes, None};
 ghost use Rattle.cml_hub.specs.Kept.{IsBudget, IsWatch, FitsSize, IsFirstBad, IsReplayed};
-ghost use Rattle.cml_host.specs.Between.{between};
-ghost use Rattle.cml_host.specs.Closed.{plain_asked};
-ghost use Rattle.cml_host.specs.Scripts.{plain_script};
+ghost use Rattle.cml_host.specs.{Between.{between}, Closed.{plain_asked}, Scripts.{plain_script}};
 ghost use Rattle.cml_host.specs.Replaying.{ReplayOutcome, ReplayTold, OpenedReplayed, ScheduleOutcome, IsBadItem, IsHubBy, IsHubOf, IsNoHub, IsNoRun, IsNotRead, IsNotRun, IsSchedule, line_told};
 ghost use Rattle.cml_host.specs.Stores.{IsUnchanged};
 ghost use Rattle.cml_text.specs.Lines.{line};

@@ -1,8 +1,7 @@
 //! Reports written to the errors, before anything else is.
 
 ghost use Rattle.std.specs.Prelude.{◌≡◌};
-ghost use Rattle.cml_host.specs.Between.{between};
-ghost use Rattle.cml_host.specs.Told.{IsSentText, reports_text};
+ghost use Rattle.cml_host.specs.{Between.{between}, Told.{IsSentText, reports_text}};
 
 use cml_monitor::Report;
 use cml_stream::Counting;

@@ -1,14 +1,10 @@
 //! The command `run`: a script runs to its end, and its schedule is saved where that is asked for.
 
-ghost use Rattle.std.specs.Prelude.{◌≡◌, ◌++◌, [], codes, Option, IfErr, IfOk, OnOk, option_map};
-ghost use Rattle.std.specs.String.{string_bytes};
+ghost use Rattle.std.specs.{Prelude.{◌≡◌, ◌++◌, [], codes, Option, IfErr, IfOk, OnOk, option_map}, String.{string_bytes}};
 ghost use Rattle.cml_hub.specs.Kept.{IsAtStart, IsBudget, IsWatch};
-ghost use Rattle.cml_host.specs.Between.{between};
-ghost use Rattle.cml_host.specs.Closed.{IsClosing, drawn_subject, plain_asked, plain_closing};
+ghost use Rattle.cml_host.specs.{Between.{between}, Closed.{IsClosing, drawn_subject, plain_asked, plain_closing}};
 ghost use Rattle.cml_host.specs.Running.{RunOutcome, OpenedOutcome, BegunOutcome, ProgramOutcome, EndedOutcome, IsEnded, IsNotEnded, IsMade, IsKept, IsNotKept, IsPictureFor, IsRefusalOf, cannot_save, names_saved, plain_saving, plain_wanted, unsaved_told};
-ghost use Rattle.cml_host.specs.Scripts.{plain_script};
-ghost use Rattle.cml_host.specs.Stores.{Shelf};
-ghost use Rattle.cml_host.specs.declared.reason.Reason.{Reason};
+ghost use Rattle.cml_host.specs.{Scripts.{plain_script}, Stores.{Shelf}, declared.reason.Reason.{Reason}};
 ghost use Rattle.cml_stream.specs.Streams.{Says};
 ghost use Rattle.cml_text.specs.Lines.{line};
 ghost use Rattle.cml_work.specs.Works.{IsWorkerCount};

@@ -1,8 +1,7 @@
 //! What a command says of a text: for the output, or for the errors where the text is refused; and how it is written.
 
 ghost use Rattle.std.specs.Prelude.{◌≡◌, IfOk};
-ghost use Rattle.cml_host.specs.Between.{between};
-ghost use Rattle.cml_host.specs.Said.{SaidOutcome, Told};
+ghost use Rattle.cml_host.specs.{Between.{between}, Said.{SaidOutcome, Told}};
 
 use crate::output::{say, send_text};
 use crate::source::{Source, tell_text};

@@ -1,8 +1,7 @@
 //! Scripts: the program that the text of a file is, or why there is none.
 
 ghost use Rattle.std.specs.Prelude.{IfOk, IfErr};
-ghost use Rattle.cml_host.specs.Scripts.{IsScript, IsOpened, IsProgramOf, IsNoProgram, IsNotMade, IsNotOpened, plain_script};
-ghost use Rattle.cml_host.specs.Stores.{IsUnchanged};
+ghost use Rattle.cml_host.specs.{Scripts.{IsScript, IsOpened, IsProgramOf, IsNoProgram, IsNotMade, IsNotOpened, plain_script}, Stores.{IsUnchanged}};
 
 use crate::refusal::Refusal;
 use crate::source::{Source, TEXT_LIMIT, tell_script, tell_text};

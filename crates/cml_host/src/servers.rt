@@ -1,9 +1,8 @@
 //! The functions of servers, as the arguments name them.
 
 ghost use Rattle.std.specs.Prelude.{◌≡◌, ◌++◌, IfOk, IfErr, None, OnOk, map, option_map};
-ghost use Rattle.cml_host.specs.Scripts.{plain_script};
+ghost use Rattle.cml_host.specs.{Scripts.{plain_script}, Servers.{IsNotNumbered, numbers_in, unknown_line}};
 ghost use Rattle.cml_host.specs.Servers as spec;
-ghost use Rattle.cml_host.specs.Servers.{IsNotNumbered, numbers_in, unknown_line};
 
 use crate::refusal::Refusal;
 use crate::script::Script;

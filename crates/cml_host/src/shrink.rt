@@ -1,13 +1,9 @@
 //! The command `shrink`: a shorter schedule of a script, which ends alike.
 
-ghost use Rattle.std.specs.Prelude.{◌≡◌, IfErr, IfOk, true};
-ghost use Rattle.std.specs.String.{string_bytes};
+ghost use Rattle.std.specs.{Prelude.{◌≡◌, IfErr, IfOk, true}, String.{string_bytes}};
 ghost use Rattle.cml_check.specs.Sizes.{size_of};
-ghost use Rattle.cml_host.specs.Between.{between};
-ghost use Rattle.cml_host.specs.Closed.{plain_asked, plain_subject};
-ghost use Rattle.cml_host.specs.Replaying.{IsNoHub, IsNoRun};
-ghost use Rattle.cml_host.specs.Shrunk.{IsShorterBy, IsShorterOf, ScheduleTold, ShrinkOutcome, TextShrunk};
-ghost use Rattle.cml_host.specs.Stores.{IsUnchanged};
+ghost use Rattle.cml_host.specs.{Between.{between}, Closed.{plain_asked, plain_subject}, Replaying.{IsNoHub, IsNoRun}};
+ghost use Rattle.cml_host.specs.{Shrunk.{IsShorterBy, IsShorterOf, ScheduleTold, ShrinkOutcome, TextShrunk}, Stores.{IsUnchanged}};
 ghost use Rattle.cml_hub.specs.Kept.{IsBudget, FitsSize};
 ghost use Rattle.cml_schedule.specs.Written.{schedule_text};
 ghost use Rattle.cml_shrink.specs.Counts.{counts_line};

@@ -1,7 +1,6 @@
 //! Texts that are read, and what is told of their faults.
 
-ghost use Rattle.std.specs.Prelude.{◌≡◌, ◌++◌, IfOk};
-ghost use Rattle.std.specs.String.{string_bytes};
+ghost use Rattle.std.specs.{Prelude.{◌≡◌, ◌++◌, IfOk}, String.{string_bytes}};
 ghost use Rattle.cml_host.specs.Said.{text_told, script_told};
 
 use cml_check::{CheckFault, CheckKind};

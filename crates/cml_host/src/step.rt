@@ -2,22 +2,16 @@
 
 ghost use Rattle.std.specs.Prelude.{◌≡◌, ◌≤◌, ◌∷◌, [], IfOk, IfErr, OnOk, OnErr, IsTrue, None, Some, option_map};
 ghost use Rattle.cml_check.specs.Sizes.{size_of};
-ghost use Rattle.cml_host.specs.Between.{between};
-ghost use Rattle.cml_host.specs.Closed.{plain_subject};
-ghost use Rattle.cml_host.specs.Scripts.{plain_script};
-ghost use Rattle.cml_host.specs.Stepped as spec;
+ghost use Rattle.cml_host.specs.{Between.{between}, Closed.{plain_subject}, Scripts.{plain_script}};
 ghost use Rattle.cml_host.specs.Stepped.{HasTalkCause, HubStepped, IsAnsweredBy, IsHeld, IsNotHeld, IsAtHand, IsTurnLost, IsTurnTaken, IsUnanswered, SavedOutcome, ScriptStepped, StepOutcome, TalkIsCut, by_hand};
 ghost use Rattle.cml_host.specs.Stores.{Shelf};
-ghost use Rattle.cml_hub.specs.Courses.{run_of};
-ghost use Rattle.cml_hub.specs.Kept.{IsAtStart, NoneOut};
-ghost use Rattle.cml_hub.specs.Runs.{stands};
+ghost use Rattle.cml_host.specs.Stepped as spec;
+ghost use Rattle.cml_hub.specs.{Courses.{run_of}, Kept.{IsAtStart, NoneOut}, Runs.{stands}};
 ghost use Rattle.cml_schedule.specs.Written.{schedule_text};
 ghost use Rattle.cml_step.specs.Calls.{text_of};
 ghost use Rattle.cml_stepper.specs.Hands.{script_of, FollowsTo};
-ghost use Rattle.cml_stream.specs.Counts.{Calls, counted};
-ghost use Rattle.cml_stream.specs.Streams.{Stream, stream, IsSpent, Supplies, Takes, TakesStart};
-ghost use Rattle.cml_trace.specs.Faults.{IsWriteFailure};
-ghost use Rattle.cml_trace.specs.Live.{max_turns, HasTurnCause, IsFlushed};
+ghost use Rattle.cml_stream.specs.{Counts.{Calls, counted}, Streams.{Stream, stream, IsSpent, Supplies, Takes, TakesStart}};
+ghost use Rattle.cml_trace.specs.{Faults.{IsWriteFailure}, Live.{max_turns, HasTurnCause, IsFlushed}};
 
 use crate::close::{Subject, subject_of};
 use crate::output::say;

@@ -1,12 +1,10 @@
 //! What is told of a run: its reports to the errors, its output and the end line to the output.
 
-ghost use Rattle.std.specs.Prelude.{◌≡◌, ◌⊎◌, ◌++◌, [], IfOk, IfErr, OnOk, OnErr};
-ghost use Rattle.std.specs.String.{string_bytes};
+ghost use Rattle.std.specs.{Prelude.{◌≡◌, ◌⊎◌, ◌++◌, [], IfOk, IfErr, OnOk, OnErr}, String.{string_bytes}};
 ghost use Rattle.cml_hub.specs.Courses.{run_of};
-ghost use Rattle.cml_host.specs.Between.{between};
-ghost use Rattle.cml_host.specs.Told as spec;
-ghost use Rattle.cml_host.specs.Running.{StopOutcome, failed_by};
+ghost use Rattle.cml_host.specs.{Between.{between}, Running.{StopOutcome, failed_by}};
 ghost use Rattle.cml_host.specs.Told.{IsCutOff, IsRunOf, IsTold, IsNotTold, OutputNotTold, SaysStill, MemoryBroke, OutputBroke, whole_output, cannot_write};
+ghost use Rattle.cml_host.specs.Told as spec;
 ghost use Rattle.cml_stream.specs.Streams.{stream, Says, Takes, TakesStart};
 
 use crate::output::say;

@@ -1,12 +1,10 @@
 //! The command `trace`: the replies to the commands on the input.
 
 ghost use Rattle.std.specs.Prelude.{◌≡◌, ◌≤◌, true, false};
-ghost use Rattle.cml_host.specs.Between.{between};
+ghost use Rattle.cml_host.specs.{Between.{between}, Traced.{TraceOutcome, LiveOutcome, WholeOutcome}};
 ghost use Rattle.cml_host.specs.Traced as spec;
-ghost use Rattle.cml_host.specs.Traced.{TraceOutcome, LiveOutcome, WholeOutcome};
 ghost use Rattle.cml_stream.specs.Counts.{most_reads};
-ghost use Rattle.cml_trace.specs.Answers.{max_input};
-ghost use Rattle.cml_trace.specs.Live.{max_turns};
+ghost use Rattle.cml_trace.specs.{Answers.{max_input}, Live.{max_turns}};
 
 use crate::output::say;
 use cml_stream::Counting;

@@ -2,8 +2,7 @@
 
 ghost use Rattle.std.specs.Prelude.{◌≡◌, ◌≢◌, ◌<◌, [], None, IfOk, IfErr};
 ghost use Rattle.cml_hub.specs.Kept.{NoneOut};
-ghost use Rattle.cml_host.specs.Between.{between};
-ghost use Rattle.cml_host.specs.Running.{HasRun, IsStopped, IsCounted, Plays, PlaysChosen, hub_of, cause_of};
+ghost use Rattle.cml_host.specs.{Between.{between}, Running.{HasRun, IsStopped, IsCounted, Plays, PlaysChosen, hub_of, cause_of}};
 ghost use Rattle.cml_host.specs.declared.workers.Cause.TheVariants.{Memory};
 ghost use Rattle.cml_work.specs.Works.{IsWorkerCount, IsWorked, GoesOnFrom};
 

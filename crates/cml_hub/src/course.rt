@@ -1,22 +1,14 @@
 //! The course of a program: its schedule so far, and where that has led.
 
 ghost use Rattle.std.specs.Prelude.{◌≡◌, ◌↔◌, ◌<◌, ◌≤◌, ◌+◌, ◌++◌, true, [], Some, IfOk, IfErr, IfSome, OnOk, OnErr, IsTrue, MatchOption, slice_get, length, map, not};
-ghost use Rattle.std.specs.List.{All};
-ghost use Rattle.std.specs.Option.{option_copied};
-ghost use Rattle.std.specs.String.{string_bytes, string_len, string_capacity};
-ghost use Rattle.cml_scan.specs.World.{PlainThread, running, pending};
-ghost use Rattle.cml_scan.specs.Scan.{scan, has_row};
-ghost use Rattle.cml_book.specs.Walks.{is_running};
-ghost use Rattle.cml_schedule.specs.Laws.{IsWritable};
+ghost use Rattle.std.specs.{List.{All}, Option.{option_copied}, String.{string_bytes, string_len, string_capacity}};
+ghost use Rattle.cml_scan.specs.{World.{PlainThread, running, pending}, Scan.{scan, has_row}};
+ghost use Rattle.cml_book.specs.{Walks.{is_running}, Swaps.{swaps}};
+ghost use Rattle.cml_schedule.specs.{Laws.{IsWritable}, Laws.{AreNumbers}};
 ghost use Rattle.cml_step.specs.Calls.{text_of};
-ghost use Rattle.cml_schedule.specs.Laws.{AreNumbers};
+ghost use Rattle.cml_hub.specs.{Dones.{GoesOn}, Courses.{IsOpening, Begins, HasMachine, MachineStands, IsOurs, run_of, Turns, TakesRow, Meets, Ticks}};
+ghost use Rattle.cml_hub.specs.{Deeds.{origins, fault_count, IsKnown}, Playing.{picked, spent}, Reports.{report_of}};
 ghost use Rattle.cml_hub.specs.Runs as spec;
-ghost use Rattle.cml_hub.specs.Dones.{GoesOn};
-ghost use Rattle.cml_book.specs.Swaps.{swaps};
-ghost use Rattle.cml_hub.specs.Courses.{IsOpening, Begins, HasMachine, MachineStands, IsOurs, run_of, Turns, TakesRow, Meets, Ticks};
-ghost use Rattle.cml_hub.specs.Deeds.{origins, fault_count, IsKnown};
-ghost use Rattle.cml_hub.specs.Playing.{picked, spent};
-ghost use Rattle.cml_hub.specs.Reports.{report_of};
 
 use crate::choose::Chooser;
 use crate::deeds::{Deeds, note};
@@ -54,10 +46,8 @@ pub(crate) struct Course {
 
 impl Model for Course {
     ghost use Rattle.std.specs.String.{string_bytes};
-    ghost use Rattle.cml_hub.specs.CourseCodes.{course_code};
+    ghost use Rattle.cml_hub.specs.{CourseCodes.{course_code}, Courses.{PlainCourse, Leads}, Deeds.{IsKnown}};
     ghost use Rattle.cml_step.specs.Calls.{text_of};
-    ghost use Rattle.cml_hub.specs.Courses.{PlainCourse, Leads};
-    ghost use Rattle.cml_hub.specs.Deeds.{IsKnown};
 
     ghost Value = { PlainCourse };
 

@@ -1,11 +1,8 @@
 //! With which functions threads began, and how many of them ended at a fault.
 
-ghost use Rattle.std.specs.Prelude.{◌≡◌, ◌<◌, ◌+◌, ◌++◌, ◌∷◌, [], count_by};
-ghost use Rattle.std.specs.List.{filter_map};
-ghost use Rattle.std.specs.Vec.{vec_len, vec_capacity};
+ghost use Rattle.std.specs.{Prelude.{◌≡◌, ◌<◌, ◌+◌, ◌++◌, ◌∷◌, [], count_by}, List.{filter_map}, Vec.{vec_len, vec_capacity}};
 ghost use Rattle.cml_step.specs.AskViews.{plain_ask};
-ghost use Rattle.cml_hub.specs.Dones.{plain_done};
-ghost use Rattle.cml_hub.specs.Deeds.{begotten, is_fault, WasAsked};
+ghost use Rattle.cml_hub.specs.{Dones.{plain_done}, Deeds.{begotten, is_fault, WasAsked}};
 
 use crate::done::Done;
 use cml_step::Ask;

@@ -2,21 +2,16 @@
 //! communications that are possible, and keeps the schedule of what happened.
 
 ghost use Rattle.std.specs.Prelude.{◌≡◌, ◌≢◌, ◌↔◌, ◌++◌, ◌+◌, ◌-◌, ◌*◌, ◌≤◌, ◌<◌, [], Some, IfOk, IfErr, IfSome, OnOk, OnErr, IsTrue, MatchOption, Ok, true, nat_le, length, slice_get};
-ghost use Rattle.std.specs.Option.{option_copied};
-ghost use Rattle.std.specs.Vec.{vec_len, vec_capacity};
+ghost use Rattle.std.specs.{Option.{option_copied}, Vec.{vec_len, vec_capacity}};
 ghost use Rattle.cml_scan.specs.World.{PlainThread, pending, running};
 ghost use Rattle.cml_check.specs.Sizes.{size_of};
-ghost use Rattle.cml_schedule.specs.Written.{schedule_text};
-ghost use Rattle.cml_schedule.specs.Reading.{ScheduleReadsAs};
+ghost use Rattle.cml_schedule.specs.{Written.{schedule_text}, Reading.{ScheduleReadsAs}};
 ghost use Rattle.cml_step.specs.Calls.{text_of};
-ghost use Rattle.cml_hub.specs.Runs as spec;
-ghost use Rattle.cml_hub.specs.Courses.{run_of, TakesRow, MachineStands, IsOurs};
-ghost use Rattle.cml_hub.specs.Deeds.{origins, fault_count};
-ghost use Rattle.cml_hub.specs.Reports.{AreReports, IsDueReport};
+ghost use Rattle.cml_hub.specs.{Courses.{run_of, TakesRow, MachineStands, IsOurs}, Deeds.{origins, fault_count}, Reports.{AreReports, IsDueReport}};
 ghost use Rattle.cml_hub.specs.Kept.{IsBudget, IsWatch, IsAtStart, Continues, Extends, HandsOut, is_ended, NoneDue, NoneOut, AllOut, OnlyRunningOut, NoneOutOrSame, TakesSlice, IsFar, IsOver, IsFollowed, Replays, FitsSize};
-ghost use Rattle.cml_hub.specs.ReadyQueue.{left_by};
-ghost use Rattle.cml_hub.specs.Playing.{parties, ready_after, MovesBy, GoesIfLeftBy, PlaysOut, PlaysSoFar};
+ghost use Rattle.cml_hub.specs.{ReadyQueue.{left_by}, Playing.{parties, ready_after, MovesBy, GoesIfLeftBy, PlaysOut, PlaysSoFar}};
 ghost use Rattle.cml_hub.specs.Moves.{IsNext, lines_up, marks_after, PartiesAway, marks_met, AddsItem, TakesBack, Reported, HandedOut, MovedOn, CalledBack, Happens, GoesIfLeft, with_report};
+ghost use Rattle.cml_hub.specs.Runs as spec;
 
 use crate::choose::Chooser;
 use crate::course::Course;
@@ -48,9 +43,7 @@ pub struct Hub {
 
 impl Model for Hub {
     ghost use Rattle.std.specs.Prelude.{map};
-    ghost use Rattle.cml_hub.specs.ReadyQueue.{is_out};
-    ghost use Rattle.cml_hub.specs.KeptCodes.{kept_code};
-    ghost use Rattle.cml_hub.specs.Kept.{Kept, Stands};
+    ghost use Rattle.cml_hub.specs.{ReadyQueue.{is_out}, KeptCodes.{kept_code}, Kept.{Kept, Stands}};
 
     ghost Value = { Kept };
 

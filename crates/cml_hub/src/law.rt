@@ -1,8 +1,6 @@
 //! What holds of every hub. A function does nothing, and its contract is the law.
 
-ghost use Rattle.cml_hub.specs.Kept.{Kept};
-ghost use Rattle.cml_hub.specs.Laws.{OneScheduleOneRun};
-ghost use Rattle.cml_hub.specs.Playing.{BeginsRun};
+ghost use Rattle.cml_hub.specs.{Kept.{Kept}, Laws.{OneScheduleOneRun}, Playing.{BeginsRun}};
 
 use crate::choose::Chooser;
 

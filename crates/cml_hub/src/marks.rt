@@ -1,8 +1,7 @@
 //! Which threads are ready to run, in their order, and whose slices are out.
 
 ghost use Rattle.std.specs.Prelude.{◌≡◌, ◌≢◌, ℕ, ◌+◌, ◌-◌, ◌<◌, ◌≤◌, ◌^◌, ◌++◌, ◌∷◌, [], List, not, map, length, MatchOption, Some, OnOk, OnErr, slice_get, slice_set};
-ghost use Rattle.std.specs.List.{list_any};
-ghost use Rattle.std.specs.VecDeque.{deque_len, deque_capacity};
+ghost use Rattle.std.specs.{List.{list_any}, VecDeque.{deque_len, deque_capacity}};
 ghost use Rattle.cml_hub.specs.ReadyQueue.{is_at, count_of, ready_at, count_outs, is_here, is_out, home, left_by, those_out};
 
 use cml_value::Tid;
@@ -31,11 +30,8 @@ pub(crate) struct ReadyQueue {
 }
 
 impl Model for ReadyQueue {
-    ghost use Rattle.std.specs.Prelude.{◌-◌};
-    ghost use Rattle.std.specs.Vec.{vec_len, vec_capacity};
-    ghost use Rattle.std.specs.VecDeque.{deque_len, deque_capacity};
-    ghost use Rattle.cml_hub.specs.MarkCodes.{marks_code};
-    ghost use Rattle.cml_hub.specs.ReadyQueue.{PlainMarks, AreMarks};
+    ghost use Rattle.std.specs.{Prelude.{◌-◌}, Vec.{vec_len, vec_capacity}, VecDeque.{deque_len, deque_capacity}};
+    ghost use Rattle.cml_hub.specs.{MarkCodes.{marks_code}, ReadyQueue.{PlainMarks, AreMarks}};
 
     ghost Value = { PlainMarks };
 

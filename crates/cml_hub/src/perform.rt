@@ -3,20 +3,14 @@
 ghost use Rattle.std.specs.Prelude.{◌≡◌, ℕ, List, ◌+◌, ◌≤◌, ◌++◌, true, Some, IfOk, OnOk, OnErr, codes, length, slice_get};
 ghost use Rattle.std.specs.String.{string_bytes, string_len, string_capacity};
 ghost use Rattle.cml_text.specs.Lines.{line as line_of};
-ghost use Rattle.cml_scan.specs.Numbers.{spaced};
-ghost use Rattle.cml_scan.specs.World.{running, ended};
+ghost use Rattle.cml_scan.specs.{Numbers.{spaced}, World.{running, ended}};
 ghost use Rattle.cml_value.specs.Views.{plain_value};
-ghost use Rattle.cml_check.specs.Syntax.{PlainItem};
-ghost use Rattle.cml_check.specs.InOrder.{arities};
-ghost use Rattle.cml_step.specs.Agrees.{function_agrees};
-ghost use Rattle.cml_step.specs.Answers.{top_await, nack as awaits_nack};
-ghost use Rattle.cml_step.specs.AskViews.{plain_ask};
-ghost use Rattle.cml_step.specs.Asks as asks;
+ghost use Rattle.cml_check.specs.{Syntax.{PlainItem}, InOrder.{arities}};
+ghost use Rattle.cml_step.specs.{Agrees.{function_agrees}, Answers.{top_await, nack as awaits_nack}, AskViews.{plain_ask}};
 ghost use Rattle.cml_step.specs.Machines.{PlainMachine, machine_term, Fits};
+ghost use Rattle.cml_step.specs.Asks as asks;
 ghost use Rattle.cml_book.specs.Outcomes.{with_thread};
-ghost use Rattle.cml_hub.specs.Performed.{spoken, asked, fails};
-ghost use Rattle.cml_hub.specs.Runs.{output_of};
-ghost use Rattle.cml_hub.specs.Dones.{plain_done, told_ahead};
+ghost use Rattle.cml_hub.specs.{Performed.{spoken, asked, fails}, Runs.{output_of}, Dones.{plain_done, told_ahead}};
 ghost use Rattle.cml_hub.specs.Asking.{HasAsked, Performs, IsDone, IsPrepared};
 
 use crate::done::{Done, Prepared};

@@ -1,11 +1,8 @@
 //! Machines that are answered.
 
-ghost use Rattle.std.specs.Prelude.{◌≡◌, ◌<◌, ◌++◌, ◌∷◌, [], length, option_map, slice_get, Some};
-ghost use Rattle.std.specs.Option.{option_to_list};
-ghost use Rattle.std.specs.Vec.{vec_len, vec_capacity};
+ghost use Rattle.std.specs.{Prelude.{◌≡◌, ◌<◌, ◌++◌, ◌∷◌, [], length, option_map, slice_get, Some}, Option.{option_to_list}, Vec.{vec_len, vec_capacity}};
 ghost use Rattle.cml_step.specs.Machines.{PlainMachine};
-ghost use Rattle.cml_hub.specs.Dones.{CanSettle, children};
-ghost use Rattle.cml_hub.specs.Settling.{SettlesAll, AllSettled, Resumes, Resumed, AllResume, AllResumed};
+ghost use Rattle.cml_hub.specs.{Dones.{CanSettle, children}, Settling.{SettlesAll, AllSettled, Resumes, Resumed, AllResume, AllResumed}};
 
 use crate::done::Done;
 use cml_book::{Committed, Resume};

@@ -1,12 +1,9 @@
 //! A turn of a thread, where its machine stands.
 
-ghost use Rattle.std.specs.Prelude.{◌≡◌, ◌+◌, ◌≤◌, length, Some, IfOk, OnErr, slice_get};
-ghost use Rattle.std.specs.String.{string_bytes, string_len, string_capacity};
+ghost use Rattle.std.specs.{Prelude.{◌≡◌, ◌+◌, ◌≤◌, length, Some, IfOk, OnErr, slice_get}, String.{string_bytes, string_len, string_capacity}};
 ghost use Rattle.cml_scan.specs.World.{running};
-ghost use Rattle.cml_step.specs.AskViews.{plain_ask};
-ghost use Rattle.cml_step.specs.Rans.{IsSlice};
-ghost use Rattle.cml_hub.specs.Dones.{GoesOn};
-ghost use Rattle.cml_hub.specs.Asking.{IsPrepared};
+ghost use Rattle.cml_step.specs.{AskViews.{plain_ask}, Rans.{IsSlice}};
+ghost use Rattle.cml_hub.specs.{Dones.{GoesOn}, Asking.{IsPrepared}};
 
 use crate::done::Prepared;
 use crate::perform::{RunBook, prepare};

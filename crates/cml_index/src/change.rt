@@ -2,12 +2,9 @@
 
 ghost use Rattle.std.specs.Prelude.{◌≡◌, ◌≤◌, ◌+◌, ◌*◌, ℕ, true, false, not, if◌then◌else◌, Some, None, length, OnOk, OnErr, IsOk};
 ghost use Rattle.cml_value.specs.Group.{bases};
-ghost use Rattle.cml_scan.specs.declared.object.Light.{Light};
-ghost use Rattle.cml_scan.specs.Order.{Every};
-ghost use Rattle.cml_scan.specs.Table.{without, changed, has_light, CanChange};
+ghost use Rattle.cml_scan.specs.{declared.object.Light.{Light}, Order.{Every}, Table.{without, changed, has_light, CanChange}};
+ghost use Rattle.cml_index.specs.{Cores.{seen, IsIndexed, IsAtRest, AreThere, IsSame, IsStill, HasFreed, HasRoom}, Slots.{HaveDigits}};
 ghost use Rattle.cml_index.specs.Posts as spec;
-ghost use Rattle.cml_index.specs.Cores.{seen, IsIndexed, IsAtRest, AreThere, IsSame, IsStill, HasFreed, HasRoom};
-ghost use Rattle.cml_index.specs.Slots.{HaveDigits};
 
 use crate::entry::Entry;
 use crate::flags::forget_light;

@@ -1,19 +1,11 @@
 //! How many leaves have a partner, object by object.
 
-ghost use Rattle.std.specs.Prelude.{◌≡◌, ◌≤◌, ◌<◌, ◌+◌, ◌*◌, true, false, length, filter, drop, slice_get, Some};
-ghost use Rattle.std.specs.List.{list_any};
-ghost use Rattle.cml_scan.specs.declared.meet.Place.{Place};
-ghost use Rattle.cml_scan.specs.Order.{Ascends, before};
-ghost use Rattle.cml_scan.specs.Scan.{offers_of};
-ghost use Rattle.cml_channel.specs.Lanes.{is_others};
-ghost use Rattle.cml_channel.specs.declared.lane.PartnerThreads.TheVariants.{Others, Above};
-ghost use Rattle.cml_index.specs.declared.heads.HeadKind.TheVariants.{Met};
-ghost use Rattle.cml_index.specs.declared.slot.Slot.TheVariants.{Side};
-ghost use Rattle.cml_index.specs.Slots.{lane_at};
-ghost use Rattle.cml_index.specs.Heads.{is_sought, is_beside, met_among, heads_on, head_total};
-ghost use Rattle.cml_index.specs.Live.{objects};
+ghost use Rattle.std.specs.{Prelude.{◌≡◌, ◌≤◌, ◌<◌, ◌+◌, ◌*◌, true, false, length, filter, drop, slice_get, Some}, List.{list_any}};
+ghost use Rattle.cml_scan.specs.{declared.meet.Place.{Place}, Order.{Ascends, before}, Scan.{offers_of}};
+ghost use Rattle.cml_channel.specs.{Lanes.{is_others}, declared.lane.PartnerThreads.TheVariants.{Others, Above}};
+ghost use Rattle.cml_index.specs.{declared.heads.HeadKind.TheVariants.{Met}, declared.slot.Slot.TheVariants.{Side}, Slots.{lane_at}};
+ghost use Rattle.cml_index.specs.{Heads.{is_sought, is_beside, met_among, heads_on, head_total}, Live.{objects}, Cores.{IsIndexed}};
 ghost use Rattle.cml_index.specs.Posts as spec;
-ghost use Rattle.cml_index.specs.Cores.{IsIndexed};
 
 use crate::slot::Slot;
 use crate::state::IndexState;

@@ -1,7 +1,6 @@
 //! Groups with leaves on both sides of one channel.
 
-ghost use Rattle.std.specs.Prelude.{◌≡◌, ◌≤◌, if◌then◌else◌, map};
-ghost use Rattle.std.specs.List.{list_any};
+ghost use Rattle.std.specs.{Prelude.{◌≡◌, ◌≤◌, if◌then◌else◌, map}, List.{list_any}};
 ghost use Rattle.cml_index.specs.Slots.{slot_in};
 ghost use Rattle.cml_index.specs.Crossing as spec;
 

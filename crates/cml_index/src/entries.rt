@@ -1,11 +1,8 @@
 //! The pending threads.
 
 ghost use Rattle.std.specs.Prelude.{◌≡◌, ◌≢◌, ◌≤◌, ◌<◌, ◌↔◌, [], ◌∷◌, Some, None, length, filter, is_some, get_or, slice_set, All, OnOk, IsTrue, vec_len};
-ghost use Rattle.std.specs.List.{insert};
-ghost use Rattle.std.specs.Option.{option_copied};
-ghost use Rattle.std.specs.Vec.{vec_capacity};
-ghost use Rattle.cml_scan.specs.Order.{Ascends};
-ghost use Rattle.cml_scan.specs.Table.{without, with_entry, IsThere};
+ghost use Rattle.std.specs.{List.{insert}, Option.{option_copied}, Vec.{vec_capacity}};
+ghost use Rattle.cml_scan.specs.{Order.{Ascends}, Table.{without, with_entry, IsThere}};
 ghost use Rattle.cml_index.specs.declared.entries.Seat.{Seat};
 ghost use Rattle.cml_index.specs.Seats as spec;
 
@@ -41,8 +38,7 @@ pub(crate) struct Entries {
 }
 
 impl Model for Entries {
-    ghost use Rattle.std.specs.Prelude.{◌-◌, vec_len};
-    ghost use Rattle.std.specs.Vec.{vec_capacity};
+    ghost use Rattle.std.specs.{Prelude.{◌-◌, vec_len}, Vec.{vec_capacity}};
     ghost use Rattle.cml_index.specs.Seats.{PlainEntries, seated, AreSeats, entries_code};
 
     ghost Value = { PlainEntries };

@@ -2,9 +2,7 @@
 
 ghost use Rattle.std.specs.Prelude.{◌≡◌, ◌≤◌, ◌<◌, ◌^◌, ◌++◌, ◌∷◌, [], length, map, IfOk};
 ghost use Rattle.cml_value.specs.Group.{bases, scopes, nacks_of};
-ghost use Rattle.cml_index.specs.Posts.{slot_of};
-ghost use Rattle.cml_index.specs.Slots.{slot_in};
-ghost use Rattle.cml_index.specs.Waits.{leaf_wait};
+ghost use Rattle.cml_index.specs.{Posts.{slot_of}, Slots.{slot_in}, Waits.{leaf_wait}};
 
 use crate::slot::Wait;
 use cml_scan::Place;
@@ -39,8 +37,7 @@ pub(crate) struct Spare {
 }
 
 impl Model for Entry {
-    ghost use Rattle.cml_scan.specs.World.{PlainEntry};
-    ghost use Rattle.cml_scan.specs.Codes.{entry_code};
+    ghost use Rattle.cml_scan.specs.{World.{PlainEntry}, Codes.{entry_code}};
     ghost use Rattle.cml_index.specs.Waits.{IsPost};
     ghost use Rattle.cml_value.specs.Group.{scopes, nacks_of};
     ghost use Rattle.std.specs.Prelude.{◌≡◌};

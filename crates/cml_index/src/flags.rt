@@ -1,13 +1,9 @@
 //! What was told of lights.
 
 ghost use Rattle.std.specs.Prelude.{◌≡◌, ◌≤◌, ◌+◌, ◌*◌, [], true, false, not, if◌then◌else◌, length, filter, OnOk, IsOk};
-ghost use Rattle.cml_scan.specs.declared.object.Light.{Light};
-ghost use Rattle.cml_scan.specs.Table.{same_light};
-ghost use Rattle.cml_index.specs.declared.slot.Slot.{Slot};
-ghost use Rattle.cml_index.specs.Slot.{same_slot};
+ghost use Rattle.cml_scan.specs.{declared.object.Light.{Light}, Table.{same_light}};
+ghost use Rattle.cml_index.specs.{declared.slot.Slot.{Slot}, Slot.{same_slot}, Waits.{lit_wait}, declared.slot.Slot.TheVariants.{Waiters}};
 ghost use Rattle.cml_index.specs.Posts as spec;
-ghost use Rattle.cml_index.specs.Waits.{lit_wait};
-ghost use Rattle.cml_index.specs.declared.slot.Slot.TheVariants.{Waiters};
 
 use crate::slot::{Slot, Wait};
 use crate::told::Told;

@@ -1,7 +1,6 @@
 //! The channels on which two threads may meet, with how many offers can stand first on each, and their sum.
 
-ghost use Rattle.std.specs.Prelude.{◌≡◌, ◌≢◌, ◌≤◌, ◌<◌, ◌==◌, ◌^◌, ◌%◌, ℕ, [], true, false, length, slice_get, Some, OnOk};
-ghost use Rattle.std.specs.List.{IsDistinct, sum_by};
+ghost use Rattle.std.specs.{Prelude.{◌≡◌, ◌≢◌, ◌≤◌, ◌<◌, ◌==◌, ◌^◌, ◌%◌, ℕ, [], true, false, length, slice_get, Some, OnOk}, List.{IsDistinct, sum_by}};
 ghost use Rattle.cml_index.specs.HeadCounts as spec;
 
 use crate::numbers::Numbers;

@@ -1,18 +1,12 @@
 //! The leaves that begin a row: those that can be taken alone, and then those that have a partner.
 
-ghost use Rattle.std.specs.Prelude.{◌≡◌, ◌≤◌, ◌<◌, ◌+◌, ◌*◌, ℕ, length, filter, map, slice_get, Some};
-ghost use Rattle.std.specs.List.{list_any};
-ghost use Rattle.cml_value.specs.Group.{bases};
-ghost use Rattle.cml_scan.specs.Order.{before, place, has_partner};
-ghost use Rattle.cml_scan.specs.Scan.{PlainOffer, scan_of, heads_of, offers_of, leaves_from};
+ghost use Rattle.std.specs.{Prelude.{◌≡◌, ◌≤◌, ◌<◌, ◌+◌, ◌*◌, ℕ, length, filter, map, slice_get, Some}, List.{list_any}};
+ghost use Rattle.cml_value.specs.{Group.{bases}, Value.{PlainBase}};
+ghost use Rattle.cml_scan.specs.{Order.{before, place, has_partner}, Scan.{PlainOffer, scan_of, heads_of, offers_of, leaves_from}};
 ghost use Rattle.cml_channel.specs.Lanes.{is_of};
-ghost use Rattle.cml_index.specs.declared.heads.HeadKind.TheVariants.{Met};
-ghost use Rattle.cml_index.specs.Slots.{lane_of};
-ghost use Rattle.cml_index.specs.Heads.{is_sought, IsSought, EndsThere};
-ghost use Rattle.cml_value.specs.Value.{PlainBase};
-ghost use Rattle.cml_index.specs.Waits.{leaf_wait};
-ghost use Rattle.cml_index.specs.Posts as spec;
+ghost use Rattle.cml_index.specs.{declared.heads.HeadKind.TheVariants.{Met}, Slots.{lane_of}, Heads.{is_sought, IsSought, EndsThere}, Waits.{leaf_wait}};
 ghost use Rattle.cml_index.specs.Cores.{IsIndexed};
+ghost use Rattle.cml_index.specs.Posts as spec;
 
 use crate::counts::count_met;
 use crate::entry::Entry;

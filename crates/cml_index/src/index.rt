@@ -1,10 +1,8 @@
 //! The index.
 
 ghost use Rattle.std.specs.Prelude.{◌≡◌, ◌≤◌, ◌<◌, ◌+◌, ◌*◌, [], ℕ, length, filter, All, Some, slice_get, OnOk, IfOk, IsOk, IsNone};
-ghost use Rattle.cml_scan.specs.Light.{lit_by};
-ghost use Rattle.cml_scan.specs.Order.{before, place, is_lit_there, meet_at, base_at};
-ghost use Rattle.cml_scan.specs.Scan.{scan_of, has_row, offers_of, heads_of, partners_of};
-ghost use Rattle.cml_scan.specs.Table.{changed, CanChange, IsNackOf, nacks_among};
+ghost use Rattle.cml_scan.specs.{Light.{lit_by}, Order.{before, place, is_lit_there, meet_at, base_at}};
+ghost use Rattle.cml_scan.specs.{Scan.{scan_of, has_row, offers_of, heads_of, partners_of}, Table.{changed, CanChange, IsNackOf, nacks_among}};
 ghost use Rattle.cml_index.specs.Posts as spec;
 
 use crate::entries::Entries;
@@ -28,8 +26,7 @@ pub struct OfferIndex {
 }
 
 impl Model for OfferIndex {
-    ghost use Rattle.cml_index.specs.Posts.{PlainIndex, index_code};
-    ghost use Rattle.cml_index.specs.Cores.{IsIndexed, IsAtRest};
+    ghost use Rattle.cml_index.specs.{Posts.{PlainIndex, index_code}, Cores.{IsIndexed, IsAtRest}};
 
     ghost Value = { PlainIndex };
 

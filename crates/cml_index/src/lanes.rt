@@ -1,17 +1,12 @@
 //! The lanes in which the offers of pending threads stand, by the numbers of what they stand on.
 
 ghost use Rattle.std.specs.Prelude.{◌≡◌, ◌≤◌, ◌<◌, ◌+◌, ◌*◌, ◌^◌, ℕ, [], ◌∷◌, ◌++◌, true, false, None, is_some, length, map, filter, OnOk, OnErr};
-ghost use Rattle.std.specs.Borrow.{sem};
-ghost use Rattle.std.specs.Option.{option_copied};
+ghost use Rattle.std.specs.{Borrow.{sem}, Option.{option_copied}};
 ghost use Rattle.cml_scan.specs.Order.{Every, Ascends, before};
-ghost use Rattle.cml_channel.specs.Lanes.{is_own, is_others, others, with_run};
-ghost use Rattle.cml_channel.specs.declared.pairing.PairedKind.TheVariants.{Swap};
-ghost use Rattle.cml_index.specs.declared.slot.Slot.{Slot};
-ghost use Rattle.cml_index.specs.declared.slot.Slot.TheVariants.{Waiters};
-ghost use Rattle.cml_index.specs.Slot.{same_slot};
+ghost use Rattle.cml_channel.specs.{Lanes.{is_own, is_others, others, with_run}, declared.pairing.PairedKind.TheVariants.{Swap}};
+ghost use Rattle.cml_index.specs.{declared.slot.Slot.{Slot}, declared.slot.Slot.TheVariants.{Waiters}, Slot.{same_slot}, Slots.{slot_in}};
 ghost use Rattle.cml_index.specs.Slots as spec;
 ghost use Rattle.cml_index.specs.Stands as stands;
-ghost use Rattle.cml_index.specs.Slots.{slot_in};
 
 use crate::slot::{LaneKind, Slot, Spot, Wait, spot_of_light};
 use crate::stand::{

@@ -1,11 +1,8 @@
 //! The objects on which two offers may meet: with offers on both sides, or with two where all sides are alike.
 
-ghost use Rattle.std.specs.Prelude.{◌≡◌, ◌≤◌, ◌<◌, ◌^◌, ◌&&◌, ◌||◌, [], true, false, length, map, slice_get, Some, OnOk};
-ghost use Rattle.std.specs.List.{IsDistinct};
-ghost use Rattle.cml_channel.specs.Pairings.{same_object, one_lane};
-ghost use Rattle.cml_channel.specs.declared.pairing.PairedId.{PairedId};
-ghost use Rattle.cml_index.specs.declared.slot.Slot.{Slot};
-ghost use Rattle.cml_index.specs.Slots.{slot_in};
+ghost use Rattle.std.specs.{Prelude.{◌≡◌, ◌≤◌, ◌<◌, ◌^◌, ◌&&◌, ◌||◌, [], true, false, length, map, slice_get, Some, OnOk}, List.{IsDistinct}};
+ghost use Rattle.cml_channel.specs.{Pairings.{same_object, one_lane}, declared.pairing.PairedId.{PairedId}};
+ghost use Rattle.cml_index.specs.{declared.slot.Slot.{Slot}, Slots.{slot_in}};
 ghost use Rattle.cml_index.specs.Live as spec;
 
 use crate::head_counts::HeadCounts;

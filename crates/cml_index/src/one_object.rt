@@ -1,15 +1,11 @@
 //! The head at a place, where all that have a partner stand on one object.
 
 ghost use Rattle.std.specs.Prelude.{◌≡◌, ◌≤◌, ◌<◌, ◌+◌, true, false, length, filter, slice_get, Some};
-ghost use Rattle.cml_scan.specs.Order.{Ascends, before};
-ghost use Rattle.cml_scan.specs.Scan.{offers_of};
-ghost use Rattle.cml_channel.specs.Lanes.{is_own, others as of_others};
-ghost use Rattle.cml_channel.specs.declared.lane.PartnerThreads.TheVariants.{Others, Above};
-ghost use Rattle.cml_index.specs.declared.slot.Slot.TheVariants.{Side};
-ghost use Rattle.cml_index.specs.Slots.{lane_at, lane_of};
-ghost use Rattle.cml_index.specs.Heads.{IsFoundEarly, met_among, heads_on};
-ghost use Rattle.cml_index.specs.Posts as spec;
+ghost use Rattle.cml_scan.specs.{Order.{Ascends, before}, Scan.{offers_of}};
+ghost use Rattle.cml_channel.specs.{Lanes.{is_own, others as of_others}, declared.lane.PartnerThreads.TheVariants.{Others, Above}};
+ghost use Rattle.cml_index.specs.{declared.slot.Slot.TheVariants.{Side}, Slots.{lane_at, lane_of}, Heads.{IsFoundEarly, met_among, heads_on}};
 ghost use Rattle.cml_index.specs.Cores.{IsIndexed};
+ghost use Rattle.cml_index.specs.Posts as spec;
 
 use crate::counts::only_thread;
 use crate::entries::Entries;

@@ -3,10 +3,8 @@
 ghost use Rattle.std.specs.Prelude.{◌≡◌, ◌≤◌, ◌<◌, ◌+◌, ◌*◌, ◌^◌, ℕ, length, slice_get, slice_index_or, Some, None};
 ghost use Rattle.cml_scan.specs.Scan.{scan_of, partners_of, offers_of};
 ghost use Rattle.cml_channel.specs.Lanes.{those};
-ghost use Rattle.cml_index.specs.Slots.{lane_of};
-ghost use Rattle.cml_index.specs.Waits.{rows_wait};
+ghost use Rattle.cml_index.specs.{Slots.{lane_of}, Waits.{rows_wait}, Cores.{IsIndexed}};
 ghost use Rattle.cml_index.specs.Posts as spec;
-ghost use Rattle.cml_index.specs.Cores.{IsIndexed};
 
 use crate::flags::is_lit_by;
 use crate::slot::{Slot, Wait, met_by};

@@ -1,18 +1,11 @@
 //! All rows: those of the leaves that can be taken alone, and then those of each leaf that meets a lane.
 
-ghost use Rattle.std.specs.Prelude.{◌≡◌, ◌≤◌, ◌<◌, ◌+◌, ◌++◌, length, map, filter, slice_index_or, IfOk};
-ghost use Rattle.std.specs.List.{flat_map};
-ghost use Rattle.cml_value.specs.Group.{bases};
-ghost use Rattle.cml_scan.specs.Light.{lit_by};
-ghost use Rattle.cml_scan.specs.Order.{Ascends, before};
-ghost use Rattle.cml_scan.specs.Scan.{single, pairs_with, offers_of, leaves_from, scan_of};
+ghost use Rattle.std.specs.{Prelude.{◌≡◌, ◌≤◌, ◌<◌, ◌+◌, ◌++◌, length, map, filter, slice_index_or, IfOk}, List.{flat_map}};
+ghost use Rattle.cml_value.specs.{Group.{bases}, Value.{PlainBase}};
+ghost use Rattle.cml_scan.specs.{Light.{lit_by}, Order.{Ascends, before}, Scan.{single, pairs_with, offers_of, leaves_from, scan_of}};
 ghost use Rattle.cml_channel.specs.Lanes.{those};
-ghost use Rattle.cml_index.specs.Heads.{pair_of, offer_at};
-ghost use Rattle.cml_index.specs.Slots.{lane_of};
-ghost use Rattle.cml_value.specs.Value.{PlainBase};
-ghost use Rattle.cml_index.specs.Waits.{leaf_wait};
+ghost use Rattle.cml_index.specs.{Heads.{pair_of, offer_at}, Slots.{lane_of}, Waits.{leaf_wait}, Cores.{IsIndexed}};
 ghost use Rattle.cml_index.specs.Posts as spec;
-ghost use Rattle.cml_index.specs.Cores.{IsIndexed};
 
 use crate::entry::Entry;
 use crate::flags::is_lit_by;

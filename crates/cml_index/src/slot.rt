@@ -1,10 +1,7 @@
 //! The lanes in which offers stand.
 
-ghost use Rattle.std.specs.Prelude.{◌≡◌, ℕ, length, map};
-ghost use Rattle.std.specs.Option.{option_copied};
-ghost use Rattle.cml_index.specs.Posts.{slot_of};
-ghost use Rattle.cml_index.specs.Stands.{side_row, light_spot, spot_of};
-ghost use Rattle.cml_index.specs.Slots.{is_slot, slot_leaves, slot_in};
+ghost use Rattle.std.specs.{Prelude.{◌≡◌, ℕ, length, map}, Option.{option_copied}};
+ghost use Rattle.cml_index.specs.{Posts.{slot_of}, Stands.{side_row, light_spot, spot_of}, Slots.{is_slot, slot_leaves, slot_in}};
 ghost use Rattle.cml_index.specs.Waits.{leaf_wait, met_slot, met_wait, meets_in};
 
 use cml_channel::{PairedId, PairedKind, PartnerThreads, place};

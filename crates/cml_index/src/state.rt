@@ -1,20 +1,12 @@
 //! The fields of the index, and the steps of a change.
 
 ghost use Rattle.std.specs.Prelude.{◌≡◌, ◌≢◌, ◌≤◌, ◌<◌, ◌+◌, ◌*◌, [], ◌∷◌, ℕ, true, if◌then◌else◌, length, map, All, slice_get, option_map, OnOk, OnErr, IfOk};
-ghost use Rattle.cml_value.specs.Group.{bases};
-ghost use Rattle.cml_scan.specs.declared.object.Light.{Light};
-ghost use Rattle.cml_scan.specs.Scan.{offers_of};
-ghost use Rattle.cml_scan.specs.Order.{base_at};
-ghost use Rattle.cml_scan.specs.Table.{without, IsThere, same_light};
+ghost use Rattle.cml_value.specs.{Group.{bases}, Group.{scopes, nacks_of}};
+ghost use Rattle.cml_scan.specs.{declared.object.Light.{Light}, Scan.{offers_of}, Order.{base_at}, Table.{without, IsThere, same_light}, Order.{Every}};
+ghost use Rattle.cml_index.specs.{Cores.{IsIndexed, IsAtRest, AreThere, IsSame, IsStill, HasCome, HasFreed, HasRoom}, Live.{have_side, HasPlace}};
+ghost use Rattle.cml_index.specs.{declared.slot.Slot.TheVariants.{Waiters}, Slots.{HaveDigits}, Waits.{leaf_wait}};
 ghost use Rattle.cml_index.specs.Posts as spec;
-ghost use Rattle.cml_index.specs.Cores.{IsIndexed, IsAtRest, AreThere, IsSame, IsStill, HasCome, HasFreed, HasRoom};
-ghost use Rattle.cml_index.specs.Live.{have_side, HasPlace};
 ghost use Rattle.cml_channel.specs.declared.pairing.PairedId.{PairedId};
-ghost use Rattle.cml_value.specs.Group.{scopes, nacks_of};
-ghost use Rattle.cml_scan.specs.Order.{Every};
-ghost use Rattle.cml_index.specs.declared.slot.Slot.TheVariants.{Waiters};
-ghost use Rattle.cml_index.specs.Slots.{HaveDigits};
-ghost use Rattle.cml_index.specs.Waits.{leaf_wait};
 
 use crate::crossing::{crossers, crossers_within};
 use crate::entries::Entries;

@@ -2,9 +2,7 @@
 
 ghost use Rattle.indexmap.specs.IndexMap.{get};
 ghost use Rattle.std.specs.Prelude.{◌≡◌, ◌≢◌, ◌==◌, ℕ, [], true, false, not, if◌then◌else◌, None, is_some, length, slice_get, OnOk, IsOk};
-ghost use Rattle.cml_scan.specs.declared.object.Light.{Light};
-ghost use Rattle.cml_scan.specs.declared.object.Light.TheVariants.{Alarm};
-ghost use Rattle.cml_scan.specs.Table.{same_light};
+ghost use Rattle.cml_scan.specs.{declared.object.Light.{Light}, declared.object.Light.TheVariants.{Alarm}, Table.{same_light}};
 ghost use Rattle.cml_index.specs.Told as spec;
 
 use cml_scan::Light;

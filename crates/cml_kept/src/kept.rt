@@ -1,7 +1,6 @@
 //! A table that keeps every row in a list.
 
-ghost use Rattle.std.specs.Prelude.{◌≡◌, ◌<◌, ◌++◌, [], false, length, slice_get, Some, IfOk, filter};
-ghost use Rattle.std.specs.List.{list_any};
+ghost use Rattle.std.specs.{Prelude.{◌≡◌, ◌<◌, ◌++◌, [], false, length, slice_get, Some, IfOk, filter}, List.{list_any}};
 ghost use Rattle.cml_scan.specs.Scan as scan_spec;
 ghost use Rattle.cml_scan.specs.Table as table_spec;
 ghost use Rattle.cml_kept.specs.Kept as spec;
@@ -19,8 +18,7 @@ struct Entry {
 }
 
 impl Model for Entry {
-    ghost use Rattle.cml_scan.specs.World.{PlainEntry};
-    ghost use Rattle.cml_scan.specs.Codes.{entry_code};
+    ghost use Rattle.cml_scan.specs.{World.{PlainEntry}, Codes.{entry_code}};
 
     ghost Value = { PlainEntry };
 
@@ -54,8 +52,7 @@ pub struct KeptRows {
 
 impl Model for KeptRows {
     ghost use Rattle.std.specs.Prelude.{◌≡◌};
-    ghost use Rattle.cml_scan.specs.Scan.{scan_of, heads_of};
-    ghost use Rattle.cml_scan.specs.Table.{has_light};
+    ghost use Rattle.cml_scan.specs.{Scan.{scan_of, heads_of}, Table.{has_light}};
     ghost use Rattle.cml_kept.specs.Kept.{PlainTold, told_code};
 
     ghost Value = { PlainTold };

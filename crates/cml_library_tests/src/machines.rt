@@ -4,12 +4,9 @@ ghost use Rattle.std.specs.Prelude.{◌≡◌, ℕ, List, true, IfSome};
 ghost use Rattle.cml_value.specs.Views.{plain_value};
 ghost use Rattle.cml_group.specs.Force.{event_of};
 ghost use Rattle.cml_check.specs.InOrder.{arities};
-ghost use Rattle.cml_step.specs.Agrees.{value_agrees, base_agrees, event_agrees, function_agrees, answer_agrees, ask_agrees};
+ghost use Rattle.cml_step.specs.{Agrees.{value_agrees, base_agrees, event_agrees, function_agrees, answer_agrees, ask_agrees}, Answers.{top_await}};
+ghost use Rattle.cml_step.specs.{AnswerViews.{plain_answer}, AskViews.{plain_ask}, Machines.{machine_term, Fits}};
 ghost use Rattle.cml_step.specs.Answers as answers;
-ghost use Rattle.cml_step.specs.Answers.{top_await};
-ghost use Rattle.cml_step.specs.AnswerViews.{plain_answer};
-ghost use Rattle.cml_step.specs.AskViews.{plain_ask};
-ghost use Rattle.cml_step.specs.Machines.{machine_term, Fits};
 
 use crate::making::{MEMORY, make, program_of};
 use cml_check::Prog;

@@ -1,8 +1,6 @@
 //! Reports of a run, made while it goes on.
 
-ghost use Rattle.std.specs.Prelude.{◌≡◌, ◌++◌, IfOk, IfErr, OnOk, IsTrue, ◌↔◌, map};
-ghost use Rattle.std.specs.List.{flat_map};
-ghost use Rattle.std.specs.String.{string_bytes};
+ghost use Rattle.std.specs.{Prelude.{◌≡◌, ◌++◌, IfOk, IfErr, OnOk, IsTrue, ◌↔◌, map}, List.{flat_map}, String.{string_bytes}};
 ghost use Rattle.cml_monitor.specs.Reports as spec;
 
 use cml_scan::Meet;
@@ -28,8 +26,7 @@ pub struct Report {
 
 impl Model for Report {
     ghost use Rattle.std.specs.Prelude.{map};
-    ghost use Rattle.cml_monitor.specs.Reports.{PlainReport};
-    ghost use Rattle.cml_monitor.specs.Codes.{report_code};
+    ghost use Rattle.cml_monitor.specs.{Reports.{PlainReport}, Codes.{report_code}};
 
     ghost Value = { PlainReport };
 

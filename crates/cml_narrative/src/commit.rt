@@ -1,9 +1,7 @@
 //! What a commit does, in words.
 
-ghost use Rattle.std.specs.Prelude.{◌≡◌, ◌++◌, ◌∷◌, [], IfOk, OnOk, map, Option, Some, None, unwrap_or, option_copied, codes, slice_get};
-ghost use Rattle.std.specs.List.{flat_map};
-ghost use Rattle.std.specs.Option.{option_map};
-ghost use Rattle.std.specs.Fmt.{decimal};
+ghost use Rattle.std.specs.{Prelude.{◌≡◌, ◌++◌, ◌∷◌, [], IfOk, OnOk, map, Option, Some, None, unwrap_or, option_copied, codes, slice_get}, List.{flat_map}};
+ghost use Rattle.std.specs.{Option.{option_map}, Fmt.{decimal}};
 ghost use Rattle.cml_value.specs.Value.{unit};
 ghost use Rattle.cml_group.specs.Leaves.{numbers};
 ghost use Rattle.cml_channel.specs.Handed.{handed};
@@ -11,8 +9,8 @@ ghost use Rattle.cml_book.specs.Commit.{given};
 ghost use Rattle.cml_hub.specs.Deeds.{origins};
 ghost use Rattle.cml_step.specs.Calls.{text_of};
 ghost use Rattle.cml_phrase.specs.Phrases.{value_words};
-ghost use Rattle.cml_narrative.specs.Commits as spec;
 ghost use Rattle.cml_narrative.specs.Views.{plain_taken};
+ghost use Rattle.cml_narrative.specs.Commits as spec;
 
 use crate::asked::{push_numbered, push_two};
 use cml_book::Book;

@@ -1,7 +1,6 @@
 //! The lines of a narrative, and their numbers.
 
-ghost use Rattle.std.specs.Prelude.{◌≡◌, ◌++◌, ◌-◌, ◌∷◌, [], IfOk, OnOk, length, max, codes};
-ghost use Rattle.std.specs.Fmt.{decimal};
+ghost use Rattle.std.specs.{Prelude.{◌≡◌, ◌++◌, ◌-◌, ◌∷◌, [], IfOk, OnOk, length, max, codes}, Fmt.{decimal}};
 ghost use Rattle.cml_narrative.specs.Lines as spec;
 
 use crate::asked::push_numbered;

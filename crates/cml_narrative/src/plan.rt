@@ -2,13 +2,10 @@
 
 ghost use Rattle.std.specs.Prelude.{◌≡◌, IfOk, MatchOption, Some, false, slice_get};
 ghost use Rattle.cml_book.specs.Walks.{is_running};
-ghost use Rattle.cml_step.specs.AskViews.{plain_ask};
+ghost use Rattle.cml_step.specs.{AskViews.{plain_ask}, Answers.{top_await}, Machines.{machine_term, Fits}};
 ghost use Rattle.cml_step.specs.Answers as answers;
-ghost use Rattle.cml_step.specs.Answers.{top_await};
-ghost use Rattle.cml_step.specs.Machines.{machine_term, Fits};
+ghost use Rattle.cml_narrative.specs.{Tales.{Plans}, Tellers.{StandsAsking}};
 ghost use Rattle.cml_narrative.specs.Tales as spec;
-ghost use Rattle.cml_narrative.specs.Tales.{Plans};
-ghost use Rattle.cml_narrative.specs.Tellers.{StandsAsking};
 
 use crate::asked::push_asked;
 use cml_check::Prog;

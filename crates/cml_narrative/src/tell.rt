@@ -2,16 +2,11 @@
 
 ghost use Rattle.std.specs.Prelude.{◌≡◌, ◌++◌, ◌==◌, ◌∷◌, [], ℕ, List, IsTrue, IfOk, OnOk, true, false, length, drop, codes, option_and_then, nat_lt, if◌then◌else◌};
 ghost use Rattle.std.specs.Fmt.{decimal};
-ghost use Rattle.cml_hub.specs.Courses.{PlainCourse, TakesRow};
-ghost use Rattle.cml_hub.specs.Kept.{NoneOut, IsFollowed};
-ghost use Rattle.cml_hub.specs.Performed.{fails};
-ghost use Rattle.cml_hub.specs.Runs.{output_of};
+ghost use Rattle.cml_hub.specs.{Courses.{PlainCourse, TakesRow}, Kept.{NoneOut, IsFollowed}, Performed.{fails}, Runs.{output_of}};
 ghost use Rattle.cml_ending.specs.Lines.{spot_place};
 ghost use Rattle.cml_phrase.specs.Spots.{all_places};
-ghost use Rattle.cml_narrative.specs.Lines.{number_words};
+ghost use Rattle.cml_narrative.specs.{Lines.{number_words}, Tales.{Plans, ToldSo}, Tellers.{tale_of, Knows, awaited_of, turn_head}};
 ghost use Rattle.cml_narrative.specs.Tales as spec;
-ghost use Rattle.cml_narrative.specs.Tales.{Plans, ToldSo};
-ghost use Rattle.cml_narrative.specs.Tellers.{tale_of, Knows, awaited_of, turn_head};
 
 use crate::asked::{push_numbered, push_two};
 use crate::commit::{push_commit, push_named};

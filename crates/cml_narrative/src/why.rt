@@ -1,9 +1,6 @@
 //! Why an item can't happen, in words.
 
-ghost use Rattle.std.specs.Prelude.{◌≡◌, ◌++◌, IfOk, OnOk, option_map};
-ghost use Rattle.std.specs.Option.{option_or};
-ghost use Rattle.std.specs.String.{string_bytes};
-ghost use Rattle.std.specs.Option.{option_copied};
+ghost use Rattle.std.specs.{Prelude.{◌≡◌, ◌++◌, IfOk, OnOk, option_map}, Option.{option_or}, String.{string_bytes}, Option.{option_copied}};
 ghost use Rattle.cml_scan.specs.Numbers.{numbers_of};
 ghost use Rattle.cml_hub.specs.Runs.{next_alarm};
 ghost use Rattle.cml_narrative.specs.Whys as spec;

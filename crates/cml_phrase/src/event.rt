@@ -1,12 +1,8 @@
 //! How base events are spoken of.
-ghost use Rattle.std.specs.Prelude.{◌≡◌, ◌++◌, ◌-◌, ◌∷◌, [], OnOk, map, length, take};
-ghost use Rattle.std.specs.Option.{option_map};
-ghost use Rattle.std.specs.List.{flat_map};
-ghost use Rattle.std.specs.Fmt.{decimal};
+ghost use Rattle.std.specs.{Prelude.{◌≡◌, ◌++◌, ◌-◌, ◌∷◌, [], OnOk, map, length, take}, Option.{option_map}, List.{flat_map}, Fmt.{decimal}};
+ghost use Rattle.cml_phrase.specs.{Phrases.{value_words}, Views.{plain_who, plain_told}};
 ghost use Rattle.cml_phrase.specs.Events as spec;
 ghost use Rattle.cml_value.specs.Value.{join};
-ghost use Rattle.cml_phrase.specs.Phrases.{value_words};
-ghost use Rattle.cml_phrase.specs.Views.{plain_who, plain_told};
 
 use crate::thread::{Who, push_thread};
 use crate::value::push_value;

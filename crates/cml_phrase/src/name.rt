@@ -1,11 +1,10 @@
 //! The names that the forms of a script give its functions and their variables.
-ghost use Rattle.std.specs.Prelude.{◌≡◌, ◌++◌, ◌∷◌, [], IfOk, OnOk, map};
-ghost use Rattle.std.specs.List.{flat_map, fold};
+ghost use Rattle.std.specs.{Prelude.{◌≡◌, ◌++◌, ◌∷◌, [], IfOk, OnOk, map}, List.{flat_map, fold}};
 ghost use Rattle.cml_text.specs.Forms.{plain_forms, forms_list};
 ghost use Rattle.cml_check.specs.Names.{with_name};
+ghost use Rattle.cml_phrase.specs.Statements.{parts_of};
 ghost use Rattle.cml_phrase.specs.declared.keyword.Keyword.TheVariants as keywords;
 ghost use Rattle.cml_phrase.specs.Names as spec;
-ghost use Rattle.cml_phrase.specs.Statements.{parts_of};
 
 use crate::keyword::{Keyword, keyword_of};
 use crate::parts::{form_name, headed, parts};

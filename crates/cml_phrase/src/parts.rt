@@ -2,8 +2,7 @@
 ghost use Rattle.std.specs.Prelude.{◌≡◌, false, IfSome, IfNone};
 ghost use Rattle.cml_text.specs.Forms.{plain_forms, plain_list, forms_and, span_of};
 ghost use Rattle.cml_check.specs.Parts.{is_headed};
-ghost use Rattle.cml_phrase.specs.Names.{form_name};
-ghost use Rattle.cml_phrase.specs.Statements.{parts_of};
+ghost use Rattle.cml_phrase.specs.{Names.{form_name}, Statements.{parts_of}};
 
 use cml_text::{Sexpr, Shape};
 

@@ -1,9 +1,7 @@
 //! The statements of a script's functions, and where they stand.
 ghost use Rattle.std.specs.Prelude.{◌≡◌, ◌++◌, ◌∷◌, [], ℕ, List, Ok, IfOk, OnOk, IfSome, length, map, slice_get};
 ghost use Rattle.cml_text.specs.Forms.{plain_forms, span_of};
-ghost use Rattle.cml_check.specs.Shape.{shape};
-ghost use Rattle.cml_check.specs.Sizes.{stmts_count};
-ghost use Rattle.cml_check.specs.Syntax.{PlainItem, written};
+ghost use Rattle.cml_check.specs.{Shape.{shape}, Sizes.{stmts_count}, Syntax.{PlainItem, written}};
 ghost use Rattle.cml_phrase.specs.declared.keyword.Keyword.TheVariants as keywords;
 ghost use Rattle.cml_phrase.specs.Statements as spec;
 

@@ -1,9 +1,8 @@
 //! How threads are spoken of.
-ghost use Rattle.std.specs.Prelude.{◌≡◌, ◌++◌, OnOk};
-ghost use Rattle.std.specs.Option.{option_map};
+ghost use Rattle.std.specs.{Prelude.{◌≡◌, ◌++◌, OnOk}, Option.{option_map}};
 ghost use Rattle.cml_value.specs.Value.{args_of};
-ghost use Rattle.cml_phrase.specs.Phrases as spec;
 ghost use Rattle.cml_phrase.specs.Views.{plain_who};
+ghost use Rattle.cml_phrase.specs.Phrases as spec;
 
 use crate::name::function_name;
 use crate::value::push_given;

@@ -1,7 +1,5 @@
 //! How values are spoken of.
-ghost use Rattle.std.specs.Prelude.{◌≡◌, ◌++◌, ◌∷◌, [], IfOk, OnOk};
-ghost use Rattle.std.specs.List.{flat_map};
-ghost use Rattle.std.specs.String.{string_bytes};
+ghost use Rattle.std.specs.{Prelude.{◌≡◌, ◌++◌, ◌∷◌, [], IfOk, OnOk}, List.{flat_map}, String.{string_bytes}};
 ghost use Rattle.cml_value.specs.Show.{shown};
 ghost use Rattle.cml_phrase.specs.Phrases as spec;
 

@@ -1,6 +1,5 @@
 //! Lines and columns.
-ghost use Rattle.std.specs.Prelude.{◌≡◌, ◌<◌, ◌+◌, ◌^◌, length, take, drop, count_by};
-ghost use Rattle.std.specs.List.{prefix_len, suffix_len};
+ghost use Rattle.std.specs.{Prelude.{◌≡◌, ◌<◌, ◌+◌, ◌^◌, length, take, drop, count_by}, List.{prefix_len, suffix_len}};
 ghost use Rattle.cml_place.specs.Places as spec;
 
 /// The bytes of a text before a place, and those from it on.

@@ -1,8 +1,5 @@
 //! How a diagnosis is shown.
-ghost use Rattle.std.specs.Prelude.{◌≡◌, ◌<◌, ◌≤◌, ◌+◌, ◌++◌, IfOk, OnOk, take, map};
-ghost use Rattle.std.specs.List.{flat_map};
-ghost use Rattle.std.specs.String.{string_bytes};
-ghost use Rattle.std.specs.Fmt.{decimal};
+ghost use Rattle.std.specs.{Prelude.{◌≡◌, ◌<◌, ◌≤◌, ◌+◌, ◌++◌, IfOk, OnOk, take, map}, List.{flat_map}, String.{string_bytes}, Fmt.{decimal}};
 ghost use Rattle.cml_place.specs.Diagnoses.{plain_note, plain_diagnosis};
 ghost use Rattle.cml_place.specs.Places as places;
 ghost use Rattle.cml_place.specs.Shown as spec;

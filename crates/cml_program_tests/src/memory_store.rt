@@ -1,7 +1,6 @@
 //! A store in memory.
 
-ghost use Rattle.std.specs.Prelude.{◌≡◌, ◌+◌, ℕ, List, take, IfOk, IfSome, IfNone};
-ghost use Rattle.std.specs.String.{string_bytes};
+ghost use Rattle.std.specs.{Prelude.{◌≡◌, ◌+◌, ℕ, List, take, IfOk, IfSome, IfNone}, String.{string_bytes}};
 ghost use Rattle.cml_host.specs.Stores.{nothing, bytes};
 ghost use Rattle.cml_program_tests.specs.Files.{content_under};
 

@@ -1,8 +1,7 @@
 //! A message to every port of a multicast channel.
 
 ghost use Rattle.std.specs.Prelude.{◌≡◌, ◌<◌, ◌≤◌, false, length, replicate, IfOk, OnOk, OnErr, All, AllPairs};
-ghost use Rattle.cml_base.specs.Feeds.{Feeds};
-ghost use Rattle.cml_base.specs.Registered.{HasRoomAt, KeepsRoom, KeepsOthers};
+ghost use Rattle.cml_base.specs.{Feeds.{Feeds}, Registered.{HasRoomAt, KeepsRoom, KeepsOthers}};
 ghost use Rattle.cml_queues.specs.Queues.{is_full_at, added_at};
 ghost use Rattle.cml_queues.specs.Posts.{port_numbers, unread, port_has_room, KeepsPorts, KeepsMessages, any_is_full as spec_any_is_full, posted, post_outcome, says_full};
 

@@ -1,7 +1,6 @@
 //! Ports of multicast channels.
 
-ghost use Rattle.std.specs.Prelude.{◌≡◌, [], length, slice_get, IfOk};
-ghost use Rattle.std.specs.Option.{option_copied};
+ghost use Rattle.std.specs.{Prelude.{◌≡◌, [], length, slice_get, IfOk}, Option.{option_copied}};
 ghost use Rattle.cml_queues.specs.Queues.{is_at_limit};
 
 use crate::queue::Queue;
@@ -62,8 +61,7 @@ impl Source for Port {
     ghost use Rattle.std.specs.Prelude.{false, None, List, nat_lt, drop};
     ghost use Rattle.std.proofs.Common.{rules};
     ghost use Rattle.cml_value.specs.Value.{PlainValue};
-    ghost use Rattle.cml_queues.specs.Queues.{is_filled, first_item, queued};
-    ghost use Rattle.cml_queues.specs.QueueLaws.{queued_stays_lit};
+    ghost use Rattle.cml_queues.specs.{Queues.{is_filled, first_item, queued}, QueueLaws.{queued_stays_lit}};
 
     type Want = ();
 

@@ -1,7 +1,6 @@
 //! Values in the order in which they came.
 
-ghost use Rattle.std.specs.Prelude.{◌≡◌, ◌<◌, ◌≤◌, [], drop, length, slice_get, IsTrue, IfOk, OnOk, OnErr};
-ghost use Rattle.std.specs.Option.{option_copied};
+ghost use Rattle.std.specs.{Prelude.{◌≡◌, ◌<◌, ◌≤◌, [], drop, length, slice_get, IsTrue, IfOk, OnOk, OnErr}, Option.{option_copied}};
 ghost use Rattle.cml_base.specs.Feeds.{Feeds, WantsNoMemory};
 ghost use Rattle.cml_queues.specs.Queues.{is_filled, is_at_limit, first_item, queued};
 
@@ -21,8 +20,7 @@ pub(crate) struct Queue {
 }
 
 impl Model for Queue {
-    ghost use Rattle.std.specs.Prelude.{◌-◌};
-    ghost use Rattle.std.specs.VecDeque.{deque_len, deque_capacity};
+    ghost use Rattle.std.specs.{Prelude.{◌-◌}, VecDeque.{deque_len, deque_capacity}};
     ghost use Rattle.cml_queues.specs.PlainQueue.{PlainQueue, queue_code};
 
     ghost Value = { PlainQueue };

@@ -3,9 +3,8 @@
 ghost use Rattle.std.specs.Prelude.{◌≡◌, ◌++◌, OnOk, IfOk};
 ghost use Rattle.cml_check.specs.Syntax.{unary, binary, choose, wrap, guard};
 ghost use Rattle.cml_step.specs.Variables.{slot_value};
+ghost use Rattle.cml_reason.specs.{Given.{made_reason}, Views.{IsBlamed}};
 ghost use Rattle.cml_reason.specs.Blamed as spec;
-ghost use Rattle.cml_reason.specs.Given.{made_reason};
-ghost use Rattle.cml_reason.specs.Views.{IsBlamed};
 
 use crate::choice::{first_no_event, valued};
 use crate::words::{push_binary, push_choice, push_made, push_plain, push_unary, push_wrap};

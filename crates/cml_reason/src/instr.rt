@@ -1,13 +1,10 @@
 //! What is said of a statement at which a step was at fault.
 
 ghost use Rattle.std.specs.Prelude.{◌≡◌, ◌++◌, OnOk};
-ghost use Rattle.cml_check.specs.Syntax.{act_on_one, act_on_two, call};
-ghost use Rattle.cml_check.specs.StmtViews.{plain_effect, plain_source};
-ghost use Rattle.cml_check.specs.InstrViews.{plain_instr};
-ghost use Rattle.cml_check.specs.Layout.{left};
+ghost use Rattle.cml_check.specs.{Syntax.{act_on_one, act_on_two, call}, StmtViews.{plain_effect, plain_source}, InstrViews.{plain_instr}, Layout.{left}};
 ghost use Rattle.cml_step.specs.Variables.{slot_value};
-ghost use Rattle.cml_reason.specs.Blamed as spec;
 ghost use Rattle.cml_reason.specs.Views.{instr_words, tested_words};
+ghost use Rattle.cml_reason.specs.Blamed as spec;
 
 use crate::blame::{blame_first, push_blame};
 use crate::choice::valued;

@@ -1,10 +1,7 @@
 //! Why a thread ended at a fault.
 
-ghost use Rattle.std.specs.Prelude.{◌≡◌, ◌++◌, OnOk, Some};
-ghost use Rattle.std.specs.Fmt.{decimal};
-ghost use Rattle.cml_step.specs.AskViews.{plain_ask};
-ghost use Rattle.cml_step.specs.Machines.{plain_held};
-ghost use Rattle.cml_step.specs.Shared.{plain_seen};
+ghost use Rattle.std.specs.{Prelude.{◌≡◌, ◌++◌, OnOk, Some}, Fmt.{decimal}};
+ghost use Rattle.cml_step.specs.{AskViews.{plain_ask}, Machines.{plain_held}, Shared.{plain_seen}};
 ghost use Rattle.cml_step.specs.declared.entry.Entry.TheVariants as entry_of;
 ghost use Rattle.cml_reason.specs.Reasons as spec;
 

@@ -1,8 +1,8 @@
 //! What is said of an operation or an effect, by the values that it was given.
 
 ghost use Rattle.std.specs.Prelude.{◌≡◌, ◌++◌, OnOk, option_copied, codes};
-ghost use Rattle.cml_reason.specs.Given as spec;
 ghost use Rattle.cml_reason.specs.Wanted.{fault_reason as reason_of};
+ghost use Rattle.cml_reason.specs.Given as spec;
 
 use crate::wanted::{
     binary_made, binary_sign, binary_wanted, fault_reason, is_of_operand, is_overflow, is_too_deep,

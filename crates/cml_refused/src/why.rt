@@ -1,9 +1,7 @@
 //! Why a command was refused, in a sentence.
 
-ghost use Rattle.std.specs.Prelude.{◌≡◌, ◌++◌, [], codes, is_some, IfOk, OnOk, slice_get};
-ghost use Rattle.cml_scan.specs.Numbers.{spaced};
-ghost use Rattle.cml_scan.specs.Views.{nack_of};
-ghost use Rattle.std.specs.String.{string_bytes};
+ghost use Rattle.std.specs.{Prelude.{◌≡◌, ◌++◌, [], codes, is_some, IfOk, OnOk, slice_get}, String.{string_bytes}};
+ghost use Rattle.cml_scan.specs.{Numbers.{spaced}, Views.{nack_of}};
 ghost use Rattle.cml_refused.specs.Whys as spec;
 
 use crate::missing::{missing_in, stale_in};

@@ -1,12 +1,10 @@
 //! Laws of the rules, each a function that does nothing and whose contract is the law.
 
 ghost use Rattle.std.specs.Prelude.{List};
-ghost use Rattle.cml_value.specs.Value.{PlainBase};
-ghost use Rattle.cml_value.specs.Group.{PlainGroup, choose, groups};
+ghost use Rattle.cml_value.specs.{Value.{PlainBase}, Group.{PlainGroup, choose, groups}};
 ghost use Rattle.cml_scan.specs.World.{PlainWorld};
 ghost use Rattle.cml_book.specs.Keeping.{NacksLive};
-ghost use Rattle.cml_rules.specs.Rules.{Sequel, Offers};
-ghost use Rattle.cml_rules.specs.Laws.{Step, OffersAreLeaves, StepsAreRows, StepsAreCommits};
+ghost use Rattle.cml_rules.specs.{Rules.{Sequel, Offers}, Laws.{Step, OffersAreLeaves, StepsAreRows, StepsAreCommits}};
 ghost use Rattle.cml_rules.specs.Firing.{AreTwoThreads, TakesOne, FiresOutside, NacksSettle};
 ghost use Rattle.cml_rules.specs.Runs.{RunsTakeSteps, StepsCanBeTaken, TimeWaits, TheEndIsStill};
 

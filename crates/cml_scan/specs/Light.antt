@@ -25,9 +25,10 @@ abbrev pub has_fired : Option PlainNack → Bool
 has_fired (Some fired) = true
 has_fired _ = false
 
--- Whether the base event can be taken alone. An alwaysEvt always can; a variable's base where the variable is full; a receive from a
--- mailbox or a port where it has an item; a join where the thread has ended; an atTimeEvt from its tick on; a nack event where
--- the nack has fired. A send and a receive on a channel and a swap need a partner and never can. An after never stands in a pending group.
+-- Whether the base event can be taken alone. An alwaysEvt always can. A take, get or swap of a variable can if the variable is full. A
+-- receive from a mailbox or a port can if an item is there. A join can if the thread has ended, an atTimeEvt if its tick has come, and a
+-- nack event if the nack has fired. A send or a receive on a channel never can, and neither can a swap on a swap channel: each needs a
+-- partner. (No afterEvt stands in a pending group.)
 abbrev pub lit : PlainWorld → PlainBase → Bool
 lit w (always v) = true
 lit w (send c v) = false
@@ -44,7 +45,8 @@ lit w (at_tick t) = nat_le t w.tick
 lit w (after_ticks d) = false
 lit w (nack k) = has_fired (slice_get w.nacks k)
 
--- The light of a base event: the object on whose state it depends. One that depends on none has no light.
+-- The light of a base event: the object, thread, tick or nack whose state says whether the base event can be taken alone. There is none if
+-- no state says it.
 abbrev pub light : PlainBase → Option Light
 light (always v) = None
 light (send c v) = None
@@ -76,11 +78,11 @@ abbrev pub is_always : PlainBase → Bool
 is_always (always v) = true
 is_always _ = false
 
--- what is told of a light, if there is one; without a light it is false
+-- what `told` says of the light; if there is no light, false
 abbrev pub is_told : (Light → Bool) → Option Light → Bool
 is_told told None = false
 is_told told (Some l) = told l
 
--- Whether the base can be taken alone, where this is told of the lights: it is an alwaysEvt, or has a light that is lit.
+-- Whether the base event can be taken alone, if `told` says which lights are lit: it is an alwaysEvt, or it has a light, which is lit.
 abbrev pub lit_by : (Light → Bool) → PlainBase → Bool
 lit_by told b = is_always b || is_told told (light b)

@@ -74,7 +74,8 @@ pair head other = Pair (record { 0 = head.thread }) head.leaf (record { 0 = othe
 abbrev pub pairs_with : List PlainOffer → PlainOffer → List Meet
 pairs_with offers head = map (pair head) (filter (can_meet head) offers)
 
--- first each leaf that can be taken alone, then each two leaves that can meet, by the head and then by the other
+-- The rows in their order. First comes each leaf that can be taken alone. Then come the leaves that can meet, two by two: first in the order
+-- of the heads, and for one head in the order of the others.
 abbrev pub rows_of : (PlainBase → Bool) → List PlainOffer → List Meet
 rows_of is_lit offers = map single (filter (λ o. is_lit o.base) offers) ++ flat_map (pairs_with offers) offers
 

@@ -5,7 +5,8 @@ use Rattle.cml_value.specs.Value.{PlainValue}
 use Rattle.cml_value.specs.Group.{PlainGroup}
 pub use Rattle.cml_value.specs.Nack.{PlainNack, fresh_of, live, fired, held}
 
--- a thread runs, waits on a forced event (in which no after stands: it became an at when the wait began), or has ended
+-- A thread runs, or it waits on a forced event, or it has ended. No afterEvt stands in a forced event: when the wait began, each became an
+-- atTimeEvt.
 pub data PlainThread : Type 0 where
   running : PlainThread
   pending_on : PlainGroup → PlainThread

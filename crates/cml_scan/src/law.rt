@@ -2,17 +2,11 @@
 
 ghost use Rattle.std.specs.Prelude.{◌≡◌, ◌≢◌, ◌↔◌, ◌<◌, ℕ, Bool, true, not, nat_lt, map, filter, ◌++◌, List};
 ghost use Rattle.std.specs.Prelude.{[], length, IsTrue, Any, AllPairs, Contains, Some, slice_get};
-ghost use Rattle.cml_value.specs.Value.{PlainValue, PlainBase, send, swap};
-ghost use Rattle.cml_value.specs.declared.number.Tid.{Tid};
-ghost use Rattle.cml_scan.specs.World.{PlainWorld, pending};
-ghost use Rattle.cml_scan.specs.Light.{lit, light_of, lit_by};
+ghost use Rattle.cml_value.specs.{Value.{PlainValue, PlainBase, send, swap}, declared.number.Tid.{Tid}};
+ghost use Rattle.cml_scan.specs.{World.{PlainWorld, pending}, Light.{lit, light_of, lit_by}};
 ghost use Rattle.cml_scan.specs.Scan.{PlainOffer, offers_of, meets, can_meet, pair, scan, scan_of, place_of, heads_of, heads, partners_of, partners, names};
-ghost use Rattle.cml_scan.specs.Table.{without, AgreeFor, TellsLights};
-ghost use Rattle.cml_scan.specs.Order.{place, row_before, first_row, has_partner, can_take, can_swap};
-ghost use Rattle.cml_scan.specs.Enabled.{IsEnabled};
-ghost use Rattle.cml_scan.specs.declared.object.Light.{Light};
-ghost use Rattle.cml_scan.specs.declared.meet.Meet.{Meet};
-ghost use Rattle.cml_scan.specs.declared.meet.Meet.TheVariants.{Pair};
+ghost use Rattle.cml_scan.specs.{Table.{without, AgreeFor, TellsLights}, Order.{place, row_before, first_row, has_partner, can_take, can_swap}};
+ghost use Rattle.cml_scan.specs.{Enabled.{IsEnabled}, declared.object.Light.{Light}, declared.meet.Meet.{Meet}, declared.meet.Meet.TheVariants.{Pair}};
 ghost use Rattle.cml_scan.specs.declared.meet.Place.{Place};
 
 /// A row is in the scan exactly where its leaves are enabled.

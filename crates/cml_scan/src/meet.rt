@@ -1,7 +1,6 @@
 //! The rows of the table of communications.
 
-ghost use Rattle.std.specs.Prelude.{◌≡◌, ◌++◌, OnOk};
-ghost use Rattle.std.specs.String.{string_bytes};
+ghost use Rattle.std.specs.{Prelude.{◌≡◌, ◌++◌, OnOk}, String.{string_bytes}};
 ghost use Rattle.cml_scan.specs.Numbers.{numbers_of};
 ghost use Rattle.cml_scan.specs.Scan as spec;
 

@@ -2,8 +2,7 @@
 
 ghost use Rattle.std.specs.Prelude.{◌≡◌, ◌++◌, length, take, IfOk, OnOk, OnErr};
 ghost use Rattle.cml_value.specs.Group.{bases};
-ghost use Rattle.cml_scan.specs.Scan.{offers_of, leaves_from};
-ghost use Rattle.cml_scan.specs.World.{pending};
+ghost use Rattle.cml_scan.specs.{Scan.{offers_of, leaves_from}, World.{pending}};
 
 use crate::world::{ThreadState, World};
 use cml_value::{Base, Group, GroupKind, Tid};
@@ -22,8 +21,7 @@ pub struct Offer {
 }
 
 impl Model for Offer {
-    ghost use Rattle.cml_scan.specs.Scan.{PlainOffer};
-    ghost use Rattle.cml_scan.specs.Codes.{offer_code};
+    ghost use Rattle.cml_scan.specs.{Scan.{PlainOffer}, Codes.{offer_code}};
 
     ghost Value = { PlainOffer };
 

@@ -1,9 +1,7 @@
 //! What a table of communications promises to those who keep it up to date.
 
 ghost use Rattle.std.specs.Prelude.{◌≡◌, ◌<◌, Bool, List, length, IsTrue, IsNone, IsOk, OnOk, OnErr, IfOk, Some, slice_get, All};
-ghost use Rattle.cml_scan.specs.declared.object.Light.{Light};
-ghost use Rattle.cml_scan.specs.World.{PlainEntry};
-ghost use Rattle.cml_scan.specs.Scan.{scan_of, heads_of, partners_of, has_row};
+ghost use Rattle.cml_scan.specs.{declared.object.Light.{Light}, World.{PlainEntry}, Scan.{scan_of, heads_of, partners_of, has_row}};
 ghost use Rattle.cml_scan.specs.Table.{changed, lit_after, CanChange, IsNackOf, nacks_among};
 
 use crate::meet::{Meet, Place};

@@ -55,8 +55,7 @@ pub struct World {
 
 impl Model for World {
     ghost use Rattle.std.specs.Prelude.{map};
-    ghost use Rattle.cml_scan.specs.World.{PlainWorld};
-    ghost use Rattle.cml_scan.specs.Codes.{world_code};
+    ghost use Rattle.cml_scan.specs.{World.{PlainWorld}, Codes.{world_code}};
 
     ghost Value = { PlainWorld };
 

@@ -30,8 +30,7 @@ pub struct Plan {
 }
 
 impl Model for Plan {
-    ghost use Rattle.cml_schedule.specs.Plans.{PlainPlan};
-    ghost use Rattle.cml_schedule.specs.Codes.{plan_code};
+    ghost use Rattle.cml_schedule.specs.{Plans.{PlainPlan}, Codes.{plan_code}};
 
     ghost Value = { PlainPlan };
 

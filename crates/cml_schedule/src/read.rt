@@ -2,8 +2,7 @@
 
 ghost use Rattle.std.specs.Prelude.{◌≡◌, ◌≤◌, length, MatchOption, IfOk, IfErr, Some};
 ghost use Rattle.cml_text.specs.Lines.{lines};
-ghost use Rattle.cml_schedule.specs.Lines.{after_line};
-ghost use Rattle.cml_schedule.specs.Reading.{IsRead, LeadsTo, DoesNotFit, LineFits, schedule_limit};
+ghost use Rattle.cml_schedule.specs.{Lines.{after_line}, Reading.{IsRead, LeadsTo, DoesNotFit, LineFits, schedule_limit}};
 
 use crate::fault::ScheduleFault;
 use crate::item::Plan;

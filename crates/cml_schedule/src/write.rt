@@ -1,8 +1,6 @@
 //! Writing a schedule.
 
-ghost use Rattle.std.specs.Prelude.{◌≡◌, ◌++◌, IfOk, OnOk};
-ghost use Rattle.std.specs.List.{flat_map};
-ghost use Rattle.std.specs.String.{string_bytes};
+ghost use Rattle.std.specs.{Prelude.{◌≡◌, ◌++◌, IfOk, OnOk}, List.{flat_map}, String.{string_bytes}};
 ghost use Rattle.cml_schedule.specs.Written as spec;
 
 use crate::item::Item;

@@ -1,7 +1,6 @@
 //! How long two schedules are, in words.
 
-ghost use Rattle.std.specs.Prelude.{◌≡◌, ◌++◌, OnOk, count_by};
-ghost use Rattle.std.specs.Fmt.{decimal};
+ghost use Rattle.std.specs.{Prelude.{◌≡◌, ◌++◌, OnOk, count_by}, Fmt.{decimal}};
 ghost use Rattle.cml_ending.specs.Lines.{many};
 ghost use Rattle.cml_shrink.specs.Counts as spec;
 

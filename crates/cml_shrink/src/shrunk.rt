@@ -2,9 +2,7 @@
 
 ghost use Rattle.std.specs.Prelude.{◌≡◌, ◌≤◌, ◌-◌, IfOk, IfErr};
 ghost use Rattle.cml_hub.specs.Kept.{IsBudget};
-ghost use Rattle.cml_shrink.specs.Ends.{IsRefused};
-ghost use Rattle.cml_shrink.specs.Shrinking.{IsShrunk};
-ghost use Rattle.cml_shrink.specs.Searching.{AlikeTo, SearchFinds};
+ghost use Rattle.cml_shrink.specs.{Ends.{IsRefused}, Shrinking.{IsShrunk}, Searching.{AlikeTo, SearchFinds}};
 
 use crate::fault::ShrinkFault;
 use crate::gather::{gather, halve, thin};

@@ -48,9 +48,7 @@ impl Source for Alarm {
     ghost use Rattle.std.specs.Prelude.{true, None};
     ghost use Rattle.std.proofs.Common.{rules};
     ghost use Rattle.cml_value.specs.Value.{unit};
-    ghost use Rattle.cml_signal.specs.PlainAlarm.{PlainAlarm};
-    ghost use Rattle.cml_signal.specs.Signals.{alarm_fed};
-    ghost use Rattle.cml_signal.specs.SignalLaws.{rung_stays_lit};
+    ghost use Rattle.cml_signal.specs.{PlainAlarm.{PlainAlarm}, Signals.{alarm_fed}, SignalLaws.{rung_stays_lit}};
 
     type Want = ();
 

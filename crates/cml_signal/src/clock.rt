@@ -18,8 +18,7 @@ pub struct Clock {
 }
 
 impl Model for Clock {
-    ghost use Rattle.std.specs.Prelude.{◌<◌, All};
-    ghost use Rattle.std.specs.Map.{values_of};
+    ghost use Rattle.std.specs.{Prelude.{◌<◌, All}, Map.{values_of}};
     ghost use Rattle.cml_signal.specs.Clocks.{PlainClock, clock_code};
 
     ghost Value = { PlainClock };

@@ -34,8 +34,7 @@ impl Source for Joined {
     ghost use Rattle.std.specs.Prelude.{true, None, Bool};
     ghost use Rattle.std.proofs.Common.{rules};
     ghost use Rattle.cml_value.specs.Value.{unit};
-    ghost use Rattle.cml_signal.specs.Signals.{ended_once};
-    ghost use Rattle.cml_signal.specs.SignalLaws.{ended_stays_lit};
+    ghost use Rattle.cml_signal.specs.{Signals.{ended_once}, SignalLaws.{ended_stays_lit}};
 
     type Want = ();
 

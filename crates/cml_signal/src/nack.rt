@@ -37,9 +37,9 @@ impl Model for NackCell {
 }
 
 impl NackCell {
+    ghost use Rattle.cml_signal.specs.NackCell.{Becomes};
     ghost use Rattle.cml_signal.specs.NackCell as spec;
     ghost use Rattle.cml_value.specs.Nack.{fresh_of};
-    ghost use Rattle.cml_signal.specs.NackCell.{Becomes};
 
     /// A fresh nack of this thread.
     pub fn new(owner: Tid) -> NackCell
@@ -153,10 +153,9 @@ pub enum NackFeed {
 impl Source for NackCell {
     ghost use Rattle.std.specs.Prelude.{true, None};
     ghost use Rattle.std.proofs.Common.{rules};
-    ghost use Rattle.cml_value.specs.Value.{unit};
-    ghost use Rattle.cml_value.specs.Nack.{PlainNack};
-    ghost use Rattle.cml_signal.specs.NackCell as spec;
+    ghost use Rattle.cml_value.specs.{Value.{unit}, Nack.{PlainNack}};
     ghost use Rattle.cml_signal.specs.NackFeeds.{nack_fed, nack_stays_lit};
+    ghost use Rattle.cml_signal.specs.NackCell as spec;
 
     type Want = ();
 

@@ -3,18 +3,12 @@
 
 ghost use Rattle.std.specs.Prelude.{◌≡◌, ℕ, ◌∷◌, length, true, false, Some, Ok, slice_get, IfSome};
 ghost use Rattle.cml_value.specs.Value.{mailbox as plain_mailbox, mvar as plain_mvar};
-ghost use Rattle.cml_check.specs.Syntax.{act_on_two, effect_map, expr_map, name_at};
-ghost use Rattle.cml_check.specs.StmtViews.{plain_effect};
-ghost use Rattle.cml_check.specs.Names.{AreDistinct};
+ghost use Rattle.cml_check.specs.{Syntax.{act_on_two, effect_map, expr_map, name_at}, StmtViews.{plain_effect}, Names.{AreDistinct}};
 ghost use Rattle.cml_check.specs.InOrder.{FunctionFits, arities, effect_fits, expr_fits};
-ghost use Rattle.cml_step.specs.Agrees.{value_agrees, all_agree, ask_agrees};
-ghost use Rattle.cml_step.specs.AskViews.{plain_ask};
-ghost use Rattle.cml_step.specs.Variables.{bound, value_of};
+ghost use Rattle.cml_step.specs.{Agrees.{value_agrees, all_agree, ask_agrees}, AskViews.{plain_ask}, Variables.{bound, value_of}, Terms.{Term}};
+ghost use Rattle.cml_step.specs.{Calls.{entry_of, call_at, text_of, variables_of}, Stacks.{CallFits}};
 ghost use Rattle.cml_step.specs.Evaluate as meaning;
-ghost use Rattle.cml_step.specs.Terms.{Term};
-ghost use Rattle.cml_step.specs.Calls.{entry_of, call_at, text_of, variables_of};
 ghost use Rattle.cml_step.specs.Steps as steps;
-ghost use Rattle.cml_step.specs.Stacks.{CallFits};
 
 use crate::ask::Ask;
 use crate::call::{Call, Wait};

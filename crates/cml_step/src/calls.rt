@@ -1,13 +1,9 @@
 //! What can be read off a call on the stack of a thread.
 
 ghost use Rattle.std.specs.Prelude.{◌≡◌, ◌<◌, ℕ, true, Some, length, slice_get, IfSome};
-ghost use Rattle.cml_check.specs.Syntax.{PlainItem, PlainEffect, effect};
-ghost use Rattle.cml_check.specs.StmtViews.{plain_source};
-ghost use Rattle.cml_check.specs.Layout.{left};
-ghost use Rattle.cml_check.specs.Follows.{Follows};
+ghost use Rattle.cml_check.specs.{Syntax.{PlainItem, PlainEffect, effect}, StmtViews.{plain_source}, Layout.{left}, Follows.{Follows}};
 ghost use Rattle.cml_check.specs.InstrViews.{plain_instr};
-ghost use Rattle.cml_step.specs.Calls.{entry_for, entry_of};
-ghost use Rattle.cml_step.specs.Standing.{StandsAt, StandsIn};
+ghost use Rattle.cml_step.specs.{Calls.{entry_for, entry_of}, Standing.{StandsAt, StandsIn}};
 
 use crate::call::{Call, Wait};
 use cml_check::{Function, Instr, Prog, Source};

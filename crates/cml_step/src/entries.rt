@@ -23,17 +23,14 @@ pub(crate) struct Frame {
 }
 
 impl Model for Frame {
-    ghost use Rattle.std.specs.Prelude.{List, ◌++◌, ◌∷◌, [], length};
-    ghost use Rattle.std.specs.Coded.{coded_list};
-    ghost use Rattle.cml_step.specs.Machines.{PlainHeld};
-    ghost use Rattle.cml_step.specs.MachineCodes.{held_code};
+    ghost use Rattle.std.specs.{Prelude.{List, ◌++◌, ◌∷◌, [], length}, Coded.{coded_list}};
+    ghost use Rattle.cml_step.specs.{Machines.{PlainHeld}, MachineCodes.{held_code}};
 
     ghost Value = { List PlainHeld };
 
     ghost coded = { coded_list held_code };
 
-    ghost use Rattle.cml_step.specs.Machines.{plain_held};
-    ghost use Rattle.cml_step.specs.Shared.{frame_entries};
+    ghost use Rattle.cml_step.specs.{Machines.{plain_held}, Shared.{frame_entries}};
 
     ghost view = { λ a. frame_entries a.below ++ plain_held a.entry ∷ [] };
 
@@ -52,10 +49,8 @@ pub(crate) struct Frames {
 }
 
 impl Model for Frames {
-    ghost use Rattle.std.specs.Prelude.{List, ◌≡◌, ◌<◌, ◌+◌, length};
-    ghost use Rattle.std.specs.Coded.{coded_list};
-    ghost use Rattle.cml_step.specs.Machines.{PlainHeld};
-    ghost use Rattle.cml_step.specs.MachineCodes.{held_code};
+    ghost use Rattle.std.specs.{Prelude.{List, ◌≡◌, ◌<◌, ◌+◌, length}, Coded.{coded_list}};
+    ghost use Rattle.cml_step.specs.{Machines.{PlainHeld}, MachineCodes.{held_code}};
 
     ghost Value = { List PlainHeld };
 
@@ -221,10 +216,8 @@ pub(crate) struct Stack {
 }
 
 impl Model for Stack {
-    ghost use Rattle.std.specs.Prelude.{List, ◌≡◌, None, []};
-    ghost use Rattle.std.specs.Coded.{coded_list};
-    ghost use Rattle.cml_step.specs.Machines.{PlainHeld};
-    ghost use Rattle.cml_step.specs.MachineCodes.{held_code};
+    ghost use Rattle.std.specs.{Prelude.{List, ◌≡◌, None, []}, Coded.{coded_list}};
+    ghost use Rattle.cml_step.specs.{Machines.{PlainHeld}, MachineCodes.{held_code}};
 
     ghost Value = { List PlainHeld };
 

@@ -1,13 +1,8 @@
 //! The entries of a thread's stack.
 
 ghost use Rattle.std.specs.Prelude.{◌≡◌, ◌↔◌, IsTrue, IfOk, List, ℕ, true};
-ghost use Rattle.cml_check.specs.Syntax.{PlainItem};
-ghost use Rattle.cml_check.specs.InOrder.{arities};
-ghost use Rattle.cml_step.specs.Agrees.{function_agrees};
-ghost use Rattle.cml_step.specs.Terms.{call_of};
-ghost use Rattle.cml_step.specs.Calls.{text_of, entry_of};
-ghost use Rattle.cml_step.specs.Machines.{plain_held};
-ghost use Rattle.cml_step.specs.Shared.{plain_seen};
+ghost use Rattle.cml_check.specs.{Syntax.{PlainItem}, InOrder.{arities}};
+ghost use Rattle.cml_step.specs.{Agrees.{function_agrees}, Terms.{call_of}, Calls.{text_of, entry_of}, Machines.{plain_held}, Shared.{plain_seen}};
 ghost use Rattle.cml_step.specs.Stacks.{CallFits};
 
 use crate::call::{Call, Wait};

@@ -1,12 +1,10 @@
 //! The values of expressions.
 
-ghost use Rattle.std.specs.Prelude.{◌≡◌, Ok};
-ghost use Rattle.std.specs.Arc.{arc_str_bytes};
+ghost use Rattle.std.specs.{Prelude.{◌≡◌, Ok}, Arc.{arc_str_bytes}};
 ghost use Rattle.cml_check.specs.Syntax.{unary, binary, choose, wrap};
 ghost use Rattle.cml_value.specs.Value.{function, values, text as plain_text};
-ghost use Rattle.cml_step.specs.Faults.{ComesTo};
+ghost use Rattle.cml_step.specs.{Faults.{ComesTo}, Variables.{slot_value}};
 ghost use Rattle.cml_step.specs.Operators as operators;
-ghost use Rattle.cml_step.specs.Variables.{slot_value};
 ghost use Rattle.cml_step.specs.Evaluate as spec;
 
 use crate::fault::Stop;

@@ -1,9 +1,7 @@
 //! What a slice notes of the call on top, so that it can be undone.
 
 ghost use Rattle.std.specs.Prelude.{◌≡◌, ◌<◌, length, true, false, None, [], slice_set};
-ghost use Rattle.cml_step.specs.Calls.{slots_with, WaitFits};
-ghost use Rattle.cml_step.specs.Machines.{plain_held};
-ghost use Rattle.cml_step.specs.Shared.{HasNoCall};
+ghost use Rattle.cml_step.specs.{Calls.{slots_with, WaitFits}, Machines.{plain_held}, Shared.{HasNoCall}};
 ghost use Rattle.cml_step.specs.Undone.{unset as plain_unset, call_before, wrapped, HasHead, HasNotes};
 
 use crate::call::{Call, Wait};

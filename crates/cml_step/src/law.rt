@@ -1,13 +1,10 @@
 //! Laws of machines, and of what agrees with a program.
 
 ghost use Rattle.std.specs.Prelude.{◌≡◌, ◌≤◌, ◌++◌, ℕ, List, [], ◌∷◌, length, true, Some, slice_get};
-ghost use Rattle.cml_value.specs.Value.{PlainValue};
-ghost use Rattle.cml_value.specs.Group.{PlainGroup, PlainLeaf, leaves};
+ghost use Rattle.cml_value.specs.{Value.{PlainValue}, Group.{PlainGroup, PlainLeaf, leaves}};
 ghost use Rattle.cml_group.specs.Force.{event_of};
 ghost use Rattle.cml_check.specs.Syntax.{PlainItem};
-ghost use Rattle.cml_step.specs.Agrees.{value_agrees, all_agree, event_agrees, leaf_agrees, answer_agrees};
-ghost use Rattle.cml_step.specs.Asks.{a_commit};
-ghost use Rattle.cml_step.specs.Machines.{PlainMachine, Fits};
+ghost use Rattle.cml_step.specs.{Agrees.{value_agrees, all_agree, event_agrees, leaf_agrees, answer_agrees}, Asks.{a_commit}, Machines.{PlainMachine, Fits}};
 ghost use Rattle.cml_step.specs.Terms.{max_entries};
 
 /// A machine that fits a program has at most 1,024 entries on its stack.

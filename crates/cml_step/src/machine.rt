@@ -1,23 +1,13 @@
 //! A thread of a script.
 
 ghost use Rattle.std.specs.Prelude.{◌≡◌, ℕ, List, [], ◌∷◌, ◌≤◌, true, IfOk, IfErr, OnOk, OnErr, ◌↔◌, IsTrue};
-ghost use Rattle.cml_check.specs.Syntax.{PlainItem};
-ghost use Rattle.cml_check.specs.InOrder.{InOrder, arities};
-ghost use Rattle.cml_step.specs.Agrees.{answer_agrees, function_agrees};
-ghost use Rattle.cml_step.specs.Answers as answers;
-ghost use Rattle.cml_step.specs.Answers.{top_await, after_answer as plain_answered};
-ghost use Rattle.cml_step.specs.AnswerViews.{plain_answer, Awaits, IsNack};
-ghost use Rattle.cml_step.specs.AskViews.{plain_ask};
-ghost use Rattle.cml_step.specs.Asks.{a_value, a_nack, a_commit};
-ghost use Rattle.cml_step.specs.Calls.{text_of};
-ghost use Rattle.cml_step.specs.Machines.{PlainMachine, machine_term, Fits};
-ghost use Rattle.cml_step.specs.Nacks.{nack_given, IsNackRoom};
-ghost use Rattle.cml_step.specs.Rans.{IsSlice};
-ghost use Rattle.cml_step.specs.Shared.{HoldsNoValue, left_of};
-ghost use Rattle.cml_step.specs.Slices.{sliced_from, max_steps, GoesIn};
-ghost use Rattle.cml_step.specs.Stacks.{StackFits, term_of};
-ghost use Rattle.cml_step.specs.Terms.{call_of};
+ghost use Rattle.cml_check.specs.{Syntax.{PlainItem}, InOrder.{InOrder, arities}};
+ghost use Rattle.cml_step.specs.{Agrees.{answer_agrees, function_agrees}, Answers.{top_await, after_answer as plain_answered}};
+ghost use Rattle.cml_step.specs.{AnswerViews.{plain_answer, Awaits, IsNack}, AskViews.{plain_ask}, Asks.{a_value, a_nack, a_commit}, Calls.{text_of}};
+ghost use Rattle.cml_step.specs.{Machines.{PlainMachine, machine_term, Fits}, Nacks.{nack_given, IsNackRoom}, Rans.{IsSlice}};
+ghost use Rattle.cml_step.specs.{Shared.{HoldsNoValue, left_of}, Slices.{sliced_from, max_steps, GoesIn}, Stacks.{StackFits, term_of}, Terms.{call_of}};
 ghost use Rattle.cml_step.specs.Undone.{IsNotedStack};
+ghost use Rattle.cml_step.specs.Answers as answers;
 
 use crate::answer::Answer;
 use crate::ask::Ask;
@@ -43,8 +33,7 @@ pub struct Machine {
 }
 
 impl Model for Machine {
-    ghost use Rattle.cml_step.specs.Machines.{PlainMachine};
-    ghost use Rattle.cml_step.specs.MachineCodes.{machine_code};
+    ghost use Rattle.cml_step.specs.{Machines.{PlainMachine}, MachineCodes.{machine_code}};
 
     ghost Value = { PlainMachine };
 

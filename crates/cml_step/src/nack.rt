@@ -3,12 +3,8 @@
 ghost use Rattle.std.specs.Prelude.{◌≡◌, ℕ, List, true, Some, IfOk};
 ghost use Rattle.cml_value.specs.Value.{PlainFunction, guard, scope};
 ghost use Rattle.cml_group.specs.Force.{calls, needs_nack, unforced, replaced, given_nack, AwaitsNack};
-ghost use Rattle.cml_check.specs.Syntax.{PlainItem};
-ghost use Rattle.cml_check.specs.InOrder.{arities};
-ghost use Rattle.cml_step.specs.Agrees.{function_agrees};
-ghost use Rattle.cml_step.specs.Calls.{text_of, entry_of};
-ghost use Rattle.cml_step.specs.Stacks.{CallFits};
-ghost use Rattle.cml_step.specs.Terms.{call_of};
+ghost use Rattle.cml_check.specs.{Syntax.{PlainItem}, InOrder.{arities}};
+ghost use Rattle.cml_step.specs.{Agrees.{function_agrees}, Calls.{text_of, entry_of}, Stacks.{CallFits}, Terms.{call_of}};
 
 use crate::call::Call;
 use crate::entries::Frames;

@@ -1,22 +1,13 @@
 //! Steps that only set variables and choose places, where what the variables had is noted.
 
 ghost use Rattle.std.specs.Prelude.{◌≡◌, ◌<◌, ◌≤◌, ℕ, ◌∷◌, length, true, false, Ok, IfSome};
-ghost use Rattle.cml_check.specs.Syntax.{name_at, expr_map, value as plain_source_value};
-ghost use Rattle.cml_check.specs.Names.{AreDistinct};
-ghost use Rattle.cml_check.specs.InOrder.{FunctionFits, arities, expr_fits};
-ghost use Rattle.cml_check.specs.Layout.{left};
-ghost use Rattle.cml_check.specs.Follows.{Follows, instr_fits};
-ghost use Rattle.cml_check.specs.InstrViews.{plain_instr};
-ghost use Rattle.cml_step.specs.Agrees.{value_agrees, all_agree};
-ghost use Rattle.cml_step.specs.Variables.{bound, value_of};
+ghost use Rattle.cml_check.specs.{Syntax.{name_at, expr_map, value as plain_source_value}, Names.{AreDistinct}, InOrder.{FunctionFits, arities, expr_fits}};
+ghost use Rattle.cml_check.specs.{Layout.{left}, Follows.{Follows, instr_fits}, InstrViews.{plain_instr}};
+ghost use Rattle.cml_step.specs.{Agrees.{value_agrees, all_agree}, Variables.{bound, value_of}, Terms.{Term}};
+ghost use Rattle.cml_step.specs.{Calls.{entry_for, entry_of, text_of, variables_of, statements_at, IsReady, RunsOn}, Steps.{goes_on}, Slices.{GoesIn}};
+ghost use Rattle.cml_step.specs.{Stacks.{CallFits}, Undone.{HasNotes}};
 ghost use Rattle.cml_step.specs.Evaluate as meaning;
-ghost use Rattle.cml_step.specs.Terms.{Term};
-ghost use Rattle.cml_step.specs.Calls.{entry_for, entry_of, text_of, variables_of, statements_at, IsReady, RunsOn};
 ghost use Rattle.cml_step.specs.Steps as steps;
-ghost use Rattle.cml_step.specs.Steps.{goes_on};
-ghost use Rattle.cml_step.specs.Slices.{GoesIn};
-ghost use Rattle.cml_step.specs.Stacks.{CallFits};
-ghost use Rattle.cml_step.specs.Undone.{HasNotes};
 
 use crate::call::{Call, Wait, choose, number_value_in, value_in};
 use crate::journal::{Noted, fill_noted, set_slot};

@@ -3,9 +3,8 @@
 
 ghost use Rattle.std.specs.Prelude.{◌≡◌, Ok, IfSome};
 ghost use Rattle.cml_value.specs.Value.{int, truth};
+ghost use Rattle.cml_step.specs.{Variables.{slot_value}, Evaluate.{evaluate}};
 ghost use Rattle.cml_step.specs.Operators as operators;
-ghost use Rattle.cml_step.specs.Variables.{slot_value};
-ghost use Rattle.cml_step.specs.Evaluate.{evaluate};
 
 use cml_check::{Binary, Constant, Expr, ExprKind, Unary};
 use cml_value::{Value, ValueKind};

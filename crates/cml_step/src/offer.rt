@@ -1,12 +1,8 @@
 //! Events that are found without a value made of them. `None` says nothing: then the value is to be found in full, where each fault is told.
 
 ghost use Rattle.std.specs.Prelude.{◌≡◌, true, false, Some, Ok, IfSome};
-ghost use Rattle.cml_value.specs.Value.{chan, mailbox, mvar, event, leaf};
-ghost use Rattle.cml_value.specs.Views.{plain_base};
-ghost use Rattle.cml_step.specs.Operators.{built};
-ghost use Rattle.cml_step.specs.Variables.{slot_value};
-ghost use Rattle.cml_step.specs.Evaluate.{evaluate};
-ghost use Rattle.cml_step.specs.Puts.{event_over, IsPut};
+ghost use Rattle.cml_value.specs.{Value.{chan, mailbox, mvar, event, leaf}, Views.{plain_base}};
+ghost use Rattle.cml_step.specs.{Operators.{built}, Variables.{slot_value}, Evaluate.{evaluate}, Puts.{event_over, IsPut}};
 ghost use Rattle.cml_check.specs.Syntax.{binary};
 
 use crate::entry::Entry;

@@ -1,11 +1,9 @@
 //! What the operations make of values.
 
 ghost use Rattle.std.specs.Prelude.{◌≡◌};
-ghost use Rattle.cml_value.specs.Value.{truth, pair, event, leaf};
-ghost use Rattle.cml_value.specs.Views.{plain_base};
-ghost use Rattle.cml_step.specs.Faults.{ComesTo};
+ghost use Rattle.cml_value.specs.{Value.{truth, pair, event, leaf}, Views.{plain_base}};
+ghost use Rattle.cml_step.specs.{Faults.{ComesTo}, Same.{are_same}};
 ghost use Rattle.cml_step.specs.Operators as spec;
-ghost use Rattle.cml_step.specs.Same.{are_same};
 
 use crate::fault::{Fault, Stop};
 use crate::kind::{

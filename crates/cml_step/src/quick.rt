@@ -2,20 +2,12 @@
 
 ghost use Rattle.std.specs.Prelude.{◌≡◌, ◌<◌, ◌≤◌, ℕ, ◌∷◌, length, true, false, Some, slice_get, IfOk};
 ghost use Rattle.cml_check.specs.Syntax.{PlainStmts, Name, return_with, effect, call as plain_call, name_at, expr_map, exprs_map};
-ghost use Rattle.cml_check.specs.InOrder.{FunctionFits, arities, expr_fits, exprs_fit, exprs_count};
-ghost use Rattle.cml_check.specs.Heads.{takes};
-ghost use Rattle.cml_check.specs.Layout.{left};
-ghost use Rattle.cml_check.specs.Follows.{Follows, instr_fits};
-ghost use Rattle.cml_check.specs.InstrViews.{plain_instr};
-ghost use Rattle.cml_step.specs.Agrees.{value_agrees, all_agree};
-ghost use Rattle.cml_step.specs.Variables.{bound};
-ghost use Rattle.cml_step.specs.Terms.{Term};
-ghost use Rattle.cml_step.specs.Calls.{entry_of, call_at, text_of, variables_of, statements_at, WaitFits};
-ghost use Rattle.cml_step.specs.Callers.{calls_on, AllCallsFit, HasRoomAbove};
+ghost use Rattle.cml_check.specs.{InOrder.{FunctionFits, arities, expr_fits, exprs_fit, exprs_count}, Heads.{takes}, Layout.{left}};
+ghost use Rattle.cml_check.specs.{Follows.{Follows, instr_fits}, InstrViews.{plain_instr}};
+ghost use Rattle.cml_step.specs.{Agrees.{value_agrees, all_agree}, Variables.{bound}, Terms.{Term}};
+ghost use Rattle.cml_step.specs.{Calls.{entry_of, call_at, text_of, variables_of, statements_at, WaitFits}, Callers.{calls_on, AllCallsFit, HasRoomAbove}};
+ghost use Rattle.cml_step.specs.{Steps.{goes_on, delivered, is_below_limit}, Slices.{GoesIn}, Stacks.{CallFits}};
 ghost use Rattle.cml_step.specs.Steps as steps;
-ghost use Rattle.cml_step.specs.Steps.{goes_on, delivered, is_below_limit};
-ghost use Rattle.cml_step.specs.Slices.{GoesIn};
-ghost use Rattle.cml_step.specs.Stacks.{CallFits};
 
 use crate::call::{Call, Wait, number_value_in, pad, value_in, values_in};
 use crate::fault::Stop;
@@ -50,7 +42,7 @@ fn kept(call: Call, idle: &mut Vec<Vec<Value>>) {
     }
 }
 
-// A call of this function at its beginning, whose values are in this list in place of what it has.
+// A call of this function at its beginning. The values of its arguments are put into `list`, in place of what that has.
 #[tactic(auto, using(crate::proofs::QuickLemmas::call_made, crate::proofs::QuickLemmas::made_fits))]
 fn begun(
     alloc: Global,

@@ -1,17 +1,10 @@
 //! Steps that only set variables and choose places.
 
 ghost use Rattle.std.specs.Prelude.{◌≡◌, ◌≤◌, ℕ, ◌∷◌, length, true, false};
-ghost use Rattle.cml_check.specs.InOrder.{FunctionFits, arities};
-ghost use Rattle.cml_check.specs.Layout.{left};
-ghost use Rattle.cml_check.specs.Follows.{Follows, instr_fits};
-ghost use Rattle.cml_check.specs.InstrViews.{plain_instr};
-ghost use Rattle.cml_step.specs.Agrees.{all_agree};
-ghost use Rattle.cml_step.specs.Terms.{Term};
-ghost use Rattle.cml_step.specs.Calls.{entry_for, entry_of, text_of, variables_of, statements_at, IsReady, RunsOn};
+ghost use Rattle.cml_check.specs.{InOrder.{FunctionFits, arities}, Layout.{left}, Follows.{Follows, instr_fits}, InstrViews.{plain_instr}};
+ghost use Rattle.cml_step.specs.{Agrees.{all_agree}, Terms.{Term}, Calls.{entry_for, entry_of, text_of, variables_of, statements_at, IsReady, RunsOn}};
+ghost use Rattle.cml_step.specs.{Steps.{goes_on}, Slices.{GoesIn}, Stacks.{CallFits}};
 ghost use Rattle.cml_step.specs.Steps as steps;
-ghost use Rattle.cml_step.specs.Steps.{goes_on};
-ghost use Rattle.cml_step.specs.Slices.{GoesIn};
-ghost use Rattle.cml_step.specs.Stacks.{CallFits};
 
 use crate::call::{Call, Wait, assign, choose};
 use cml_check::{Function, Instr, Prog, Source};

@@ -2,12 +2,8 @@
 
 ghost use Rattle.std.specs.Prelude.{◌≡◌, IfOk, IfErr, true};
 ghost use Rattle.cml_check.specs.InOrder.{arities};
-ghost use Rattle.cml_step.specs.Agrees.{ask_agrees};
+ghost use Rattle.cml_step.specs.{Agrees.{ask_agrees}, Answers.{top_await}, AskViews.{plain_ask}, Machines.{machine_term, Fits}, Rans.{IsSlice}};
 ghost use Rattle.cml_step.specs.Answers as answers;
-ghost use Rattle.cml_step.specs.Answers.{top_await};
-ghost use Rattle.cml_step.specs.AskViews.{plain_ask};
-ghost use Rattle.cml_step.specs.Machines.{machine_term, Fits};
-ghost use Rattle.cml_step.specs.Rans.{IsSlice};
 ghost use Rattle.cml_step.specs.declared.ran.SliceFault.TheVariants as slice_fault;
 
 use crate::ask::Ask;
@@ -45,8 +41,7 @@ pub struct Ran {
 }
 
 impl Model for Ran {
-    ghost use Rattle.cml_step.specs.AskViews.{plain_ask};
-    ghost use Rattle.cml_step.specs.Rans.{PlainRan, IsSlice, ran_code};
+    ghost use Rattle.cml_step.specs.{AskViews.{plain_ask}, Rans.{PlainRan, IsSlice, ran_code}};
 
     ghost Value = { PlainRan };
 

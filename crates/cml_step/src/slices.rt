@@ -1,11 +1,8 @@
 //! Slices of a thread.
 
 ghost use Rattle.std.specs.Prelude.{◌≡◌, IfOk};
+ghost use Rattle.cml_step.specs.{Answers.{top_await}, AskViews.{plain_ask}, Machines.{machine_term, Fits}, Rans.{IsSlice}};
 ghost use Rattle.cml_step.specs.Answers as answers;
-ghost use Rattle.cml_step.specs.Answers.{top_await};
-ghost use Rattle.cml_step.specs.AskViews.{plain_ask};
-ghost use Rattle.cml_step.specs.Machines.{machine_term, Fits};
-ghost use Rattle.cml_step.specs.Rans.{IsSlice};
 
 use crate::ask::Ask;
 use crate::machine::Machine;

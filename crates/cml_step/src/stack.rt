@@ -2,18 +2,13 @@
 
 ghost use Rattle.std.specs.Prelude.{◌≡◌, ℕ, ◌+◌, List, [], ◌∷◌, ◌++◌, length, true, false, Some, None, Ok, IfOk, IfErr};
 ghost use Rattle.cml_value.specs.Value.{function, values};
-ghost use Rattle.cml_check.specs.Syntax.{PlainItem};
-ghost use Rattle.cml_check.specs.InOrder.{arities};
-ghost use Rattle.cml_step.specs.Agrees.{value_agrees, function_agrees, event_agrees};
-ghost use Rattle.cml_step.specs.Terms.{Term, call_of, force};
-ghost use Rattle.cml_group.specs.Force.{AwaitsEvent, unforced, event_of as plain_event_of};
-ghost use Rattle.cml_step.specs.Forced.{group_of};
-ghost use Rattle.cml_step.specs.Steps as steps;
-ghost use Rattle.cml_step.specs.Steps.{PlainStep};
-ghost use Rattle.cml_step.specs.Calls.{text_of, entry_of, MovesTo, ActionAgrees};
-ghost use Rattle.cml_step.specs.Machines.{PlainHeld, force as plain_force, plain_held, held_entry};
+ghost use Rattle.cml_check.specs.{Syntax.{PlainItem}, InOrder.{arities}};
+ghost use Rattle.cml_step.specs.{Agrees.{value_agrees, function_agrees, event_agrees}, Terms.{Term, call_of, force}, Forced.{group_of}, Steps.{PlainStep}};
+ghost use Rattle.cml_step.specs.{Calls.{text_of, entry_of, MovesTo, ActionAgrees}, Machines.{PlainHeld, force as plain_force, plain_held, held_entry}};
 ghost use Rattle.cml_step.specs.Shared.{IsNoCall};
 ghost use Rattle.cml_step.specs.Stacks.{entry_view, term_of, EntryFits, BeneathFits, EachBeneath, StackFits, IsStep, StepFits, CallFits, WrapsFit, IsDelivered, EntryStands, TopStands};
+ghost use Rattle.cml_step.specs.Steps as steps;
+ghost use Rattle.cml_group.specs.Force.{AwaitsEvent, unforced, event_of as plain_event_of};
 
 use crate::ask::Ask;
 use crate::call::{Action, Call, Wait, call_step, fill};

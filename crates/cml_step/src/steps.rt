@@ -1,16 +1,9 @@
 //! Slices of a thread's steps.
 
 ghost use Rattle.std.specs.Prelude.{◌≡◌, ◌<◌, ◌≤◌, ℕ, List, [], ◌∷◌, ◌++◌, true, false, Some, None, IfOk, OnOk, IfSome};
-ghost use Rattle.cml_check.specs.Syntax.{PlainItem};
-ghost use Rattle.cml_check.specs.InOrder.{arities};
-ghost use Rattle.cml_step.specs.AskViews.{plain_ask};
-ghost use Rattle.cml_step.specs.Agrees.{ask_agrees};
-ghost use Rattle.cml_step.specs.Steps.{next, asks};
-ghost use Rattle.cml_step.specs.Slices.{sliced_from, GoesIn};
-ghost use Rattle.cml_step.specs.Calls.{text_of};
-ghost use Rattle.cml_step.specs.Callers.{calls_on, AllCallsFit};
-ghost use Rattle.cml_step.specs.Machines.{PlainHeld, wraps as plain_wraps};
-ghost use Rattle.cml_step.specs.Shared.{topped};
+ghost use Rattle.cml_check.specs.{Syntax.{PlainItem}, InOrder.{arities}};
+ghost use Rattle.cml_step.specs.{AskViews.{plain_ask}, Agrees.{ask_agrees}, Steps.{next, asks}, Slices.{sliced_from, GoesIn}, Calls.{text_of}};
+ghost use Rattle.cml_step.specs.{Callers.{calls_on, AllCallsFit}, Machines.{PlainHeld, wraps as plain_wraps}, Shared.{topped}};
 ghost use Rattle.cml_step.specs.Stacks.{term_of, EachBeneath, StackFits};
 
 use crate::ask::Ask;

@@ -1,17 +1,10 @@
 //! The first steps of a slice, as long as they stay in the call on top: what they change is noted, so nothing is copied.
 
 ghost use Rattle.std.specs.Prelude.{◌≡◌, ◌<◌, ◌≤◌, ◌+◌, ℕ, List, [], ◌∷◌, ◌++◌, true, false, None, OnErr, IfOk, IfSome, length};
-ghost use Rattle.cml_check.specs.Syntax.{PlainItem};
-ghost use Rattle.cml_check.specs.InOrder.{arities};
-ghost use Rattle.cml_step.specs.Agrees.{ask_agrees};
-ghost use Rattle.cml_step.specs.AskViews.{plain_ask};
-ghost use Rattle.cml_step.specs.Begins.{BeginsSlice};
-ghost use Rattle.cml_step.specs.Calls.{text_of};
-ghost use Rattle.cml_step.specs.Machines.{PlainHeld, wraps as plain_wraps};
-ghost use Rattle.cml_step.specs.Shared.{topped, HasNoCall};
-ghost use Rattle.cml_step.specs.Slices.{GoesIn, max_steps};
-ghost use Rattle.cml_step.specs.Stacks.{StackFits, term_of};
-ghost use Rattle.cml_step.specs.Steps.{next, asks};
+ghost use Rattle.cml_check.specs.{Syntax.{PlainItem}, InOrder.{arities}};
+ghost use Rattle.cml_step.specs.{Agrees.{ask_agrees}, AskViews.{plain_ask}, Begins.{BeginsSlice}, Calls.{text_of}};
+ghost use Rattle.cml_step.specs.{Machines.{PlainHeld, wraps as plain_wraps}, Shared.{topped, HasNoCall}, Slices.{GoesIn, max_steps}};
+ghost use Rattle.cml_step.specs.{Stacks.{StackFits, term_of}, Steps.{next, asks}};
 ghost use Rattle.cml_step.specs.Undone.{stood, stack_before, wrapped, HasHead, HasSlotsOf, HasNotes, IsNotedStack};
 
 use crate::ask::Ask;

@@ -2,28 +2,16 @@
 //! Then the step is made in full, and that tells each fault.
 
 ghost use Rattle.std.specs.Prelude.{◌≡◌, ℕ, ◌<◌, List, ◌∷◌, length, true, false, Some, Ok, slice_get};
-ghost use Rattle.cml_value.specs.Value.{event as plain_event};
-ghost use Rattle.cml_check.specs.Syntax.{effect_map, expr_map, name_at};
-ghost use Rattle.cml_check.specs.Syntax as syntax;
-ghost use Rattle.cml_check.specs.StmtViews.{plain_effect};
-ghost use Rattle.cml_check.specs.Names.{AreDistinct};
-ghost use Rattle.cml_check.specs.InOrder.{FunctionFits, arities, effect_fits, expr_fits};
-ghost use Rattle.cml_check.specs.Layout.{left};
-ghost use Rattle.cml_check.specs.Follows.{Follows, instr_fits};
+ghost use Rattle.cml_value.specs.{Value.{event as plain_event}, Group.{leaf}, Views.{plain_base}};
+ghost use Rattle.cml_check.specs.{Syntax.{effect_map, expr_map, name_at}, StmtViews.{plain_effect}, Names.{AreDistinct}};
+ghost use Rattle.cml_check.specs.{InOrder.{FunctionFits, arities, effect_fits, expr_fits}, Layout.{left}, Follows.{Follows, instr_fits}};
 ghost use Rattle.cml_check.specs.InstrViews.{plain_instr};
-ghost use Rattle.cml_value.specs.Group.{leaf};
-ghost use Rattle.cml_value.specs.Views.{plain_base};
-ghost use Rattle.cml_step.specs.Agrees.{all_agree, event_agrees, ask_agrees};
-ghost use Rattle.cml_step.specs.AskViews.{plain_ask};
-ghost use Rattle.cml_step.specs.Variables.{bound, value_of};
+ghost use Rattle.cml_check.specs.Syntax as syntax;
+ghost use Rattle.cml_step.specs.{Agrees.{all_agree, event_agrees, ask_agrees}, AskViews.{plain_ask}, Variables.{bound, value_of}};
+ghost use Rattle.cml_step.specs.{Terms.{Program, Term, force}, Calls.{entry_of, call_at, text_of, variables_of, statements_at, WaitFits}};
+ghost use Rattle.cml_step.specs.{Steps.{pushed, asks}, Stacks.{CallFits}, Undone.{HasSlotsOf}, Puts.{event_over, IsPut}};
 ghost use Rattle.cml_step.specs.Evaluate as meaning;
-ghost use Rattle.cml_step.specs.Terms.{Program, Term, force};
-ghost use Rattle.cml_step.specs.Calls.{entry_of, call_at, text_of, variables_of, statements_at, WaitFits};
 ghost use Rattle.cml_step.specs.Steps as steps;
-ghost use Rattle.cml_step.specs.Steps.{pushed, asks};
-ghost use Rattle.cml_step.specs.Stacks.{CallFits};
-ghost use Rattle.cml_step.specs.Undone.{HasSlotsOf};
-ghost use Rattle.cml_step.specs.Puts.{event_over, IsPut};
 
 use crate::ask::Ask;
 use crate::call::{Call, Wait, pad};

@@ -17,8 +17,7 @@ pub struct Undo {
 
 impl Undo {
     ghost use Rattle.std.specs.Prelude.{◌≡◌};
-    ghost use Rattle.cml_step.specs.Machines.{PlainMachine};
-    ghost use Rattle.cml_step.specs.Undos.{IsUndone, RestsUndo};
+    ghost use Rattle.cml_step.specs.{Machines.{PlainMachine}, Undos.{IsUndone, RestsUndo}};
 
     /// Of no slice yet. It takes no memory.
     pub fn new(alloc: Global) -> Undo

@@ -1,9 +1,7 @@
 //! Rows in words.
 
 ghost use Rattle.std.specs.Prelude.{◌≡◌, ◌++◌, ◌<◌, ◌≤◌, ◌+◌, ◌^◌, Some, OnOk, length, take, drop};
-ghost use Rattle.cml_narrative.specs.Commits.{named};
-ghost use Rattle.cml_narrative.specs.Tales.{began_in};
-ghost use Rattle.cml_narrative.specs.Whys.{base_of_leaf};
+ghost use Rattle.cml_narrative.specs.{Commits.{named}, Tales.{began_in}, Whys.{base_of_leaf}};
 ghost use Rattle.cml_stepper.specs.Questions as spec;
 
 use crate::words::{push_numbered, push_numbered_line};

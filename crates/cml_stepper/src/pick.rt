@@ -1,8 +1,8 @@
 //! Which item an answer names.
 
 ghost use Rattle.std.specs.Prelude.{◌≡◌, [], IfOk};
-ghost use Rattle.cml_hub.specs.Playing as playing;
 ghost use Rattle.cml_hub.specs.Runs.{next_alarm};
+ghost use Rattle.cml_hub.specs.Playing as playing;
 ghost use Rattle.cml_scan.specs.Scan.{scan};
 ghost use Rattle.cml_stepper.specs.Picks as spec;
 

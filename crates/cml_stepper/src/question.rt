@@ -1,17 +1,13 @@
 //! The question before each answer.
 
-ghost use Rattle.std.specs.Prelude.{◌≡◌, ◌++◌, [], IfOk, OnOk, take, option_and_then};
-ghost use Rattle.std.specs.List.{flat_map};
-ghost use Rattle.cml_ending.specs.Ends.{EndsSo};
-ghost use Rattle.cml_ending.specs.Lines.{spot_place};
-ghost use Rattle.cml_ending.specs.Standings.{spot_at, AreSpots};
+ghost use Rattle.std.specs.{Prelude.{◌≡◌, ◌++◌, [], IfOk, OnOk, take, option_and_then}, List.{flat_map}};
+ghost use Rattle.cml_ending.specs.{Ends.{EndsSo}, Lines.{spot_place}, Standings.{spot_at, AreSpots}};
 ghost use Rattle.cml_hub.specs.Runs.{terminal, next_alarm};
 ghost use Rattle.cml_narrative.specs.Tales.{began_in};
 ghost use Rattle.cml_phrase.specs.Spots.{all_places};
 ghost use Rattle.cml_scan.specs.Scan.{scan};
-ghost use Rattle.cml_stepper.specs.Hands.{script_of};
+ghost use Rattle.cml_stepper.specs.{Hands.{script_of}, Questions.{IsQuestion, SaysOffers, TellsEnd, OffersSo}};
 ghost use Rattle.cml_stepper.specs.Questions as spec;
-ghost use Rattle.cml_stepper.specs.Questions.{IsQuestion, SaysOffers, TellsEnd, OffersSo};
 
 use crate::offer::{LISTED, push_named, push_rows};
 use crate::pick::next_tick;

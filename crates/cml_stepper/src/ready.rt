@@ -2,8 +2,8 @@
 
 ghost use Rattle.std.specs.Prelude.{◌≡◌, ◌++◌, ◌∷◌, [], if◌then◌else◌, IfOk, OnOk, drop};
 ghost use Rattle.cml_narrative.specs.Whys.{first_running};
-ghost use Rattle.cml_stepper.specs.Picks as spec;
 ghost use Rattle.cml_stepper.specs.Questions.{running_from};
+ghost use Rattle.cml_stepper.specs.Picks as spec;
 
 use cml_book::Book;
 use cml_hub::{Hub, Item};

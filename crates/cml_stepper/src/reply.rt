@@ -1,16 +1,12 @@
 //! What is done at an answer, and what is said to it.
 
 ghost use Rattle.std.specs.Prelude.{◌≡◌, ◌++◌, ◌∷◌, ◌<◌, ◌-◌, [], IfOk, OnOk, true, false, length, take, drop};
-ghost use Rattle.cml_hub.specs.Courses.{Adds};
-ghost use Rattle.cml_hub.specs.Kept.{NoneOut};
-ghost use Rattle.cml_hub.specs.Runs.{is_allowed};
-ghost use Rattle.cml_narrative.specs.Tales.{TellsItem};
-ghost use Rattle.cml_narrative.specs.Whys.{why_words};
+ghost use Rattle.cml_hub.specs.{Courses.{Adds}, Kept.{NoneOut}, Runs.{is_allowed}};
+ghost use Rattle.cml_narrative.specs.{Tales.{TellsItem}, Whys.{why_words}};
 ghost use Rattle.cml_scan.specs.Scan.{scan};
-ghost use Rattle.cml_stepper.specs.Hands.{script_of, FollowsTo};
-ghost use Rattle.cml_stepper.specs.Tellings.{told_by_hand};
-ghost use Rattle.cml_stepper.specs.Replies as spec;
+ghost use Rattle.cml_stepper.specs.{Hands.{script_of, FollowsTo}, Tellings.{told_by_hand}};
 ghost use Rattle.cml_stepper.specs.Replies.{AnswersLine, DoneAt, HappensSaid, StaysSaid, Undoes, UndoesLast, TakesNamed};
+ghost use Rattle.cml_stepper.specs.Replies as spec;
 ghost use Rattle.cml_stepper.specs.Picks as picks;
 
 use crate::line::{Typed, typed_from};

@@ -1,8 +1,7 @@
 //! The rows of a table from one place on.
 
 ghost use Rattle.std.specs.Prelude.{◌≡◌, ◌≤◌, ◌++◌, IfOk, OnOk, take, drop, length};
-ghost use Rattle.cml_scan.specs.Order.{IsSorted};
-ghost use Rattle.cml_scan.specs.Scan.{scan, scan_of, partners_of};
+ghost use Rattle.cml_scan.specs.{Order.{IsSorted}, Scan.{scan, scan_of, partners_of}};
 
 use cml_book::Book;
 use cml_index::OfferIndex;

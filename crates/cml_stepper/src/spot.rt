@@ -1,8 +1,8 @@
 //! Where threads stand.
 
 ghost use Rattle.std.specs.Prelude.{◌<◌, IfOk, length, option_and_then, slice_get};
-ghost use Rattle.cml_ending.specs.Standings as standings;
 ghost use Rattle.cml_ending.specs.Standings.{AreSpots, IsSpotOf};
+ghost use Rattle.cml_ending.specs.Standings as standings;
 
 use cml_ending::{Spot, machine_spot};
 use cml_hub::Hub;

@@ -1,11 +1,9 @@
 //! A run without its last item.
 
 ghost use Rattle.std.specs.Prelude.{◌≡◌, ◌≤◌, ◌∷◌, ◌++◌, IfOk, OnOk, OnErr, [], true, take, length};
-ghost use Rattle.cml_hub.specs.Kept.{NoneOut};
-ghost use Rattle.cml_hub.specs.Runs.{is_allowed};
+ghost use Rattle.cml_hub.specs.{Kept.{NoneOut}, Runs.{is_allowed}};
 ghost use Rattle.cml_narrative.specs.Tellers.{tale_of, Knows};
-ghost use Rattle.cml_stepper.specs.Hands.{script_of, FollowsTo};
-ghost use Rattle.cml_stepper.specs.Replies.{LeadsBack};
+ghost use Rattle.cml_stepper.specs.{Hands.{script_of, FollowsTo}, Replies.{LeadsBack}};
 
 use crate::stepper::Stepper;
 use cml_hub::{Hub, Item};

@@ -1,9 +1,7 @@
 //! Streams whose calls are counted.
 
-ghost use Rattle.std.specs.Prelude.{◌≡◌, ◌≢◌, ◌<◌, IsTrue, IsFalse, IfOk, OnOk, IfErr, OnErr};
-ghost use Rattle.std.specs.Io.{ReadsAtMost, WritesAtMost};
-ghost use Rattle.std.specs.Io.KnownBytes.{Keeps, ReadConsumes, WriteAppends};
-ghost use Rattle.std.specs.IoError.{error_kind};
+ghost use Rattle.std.specs.{Prelude.{◌≡◌, ◌≢◌, ◌<◌, IsTrue, IsFalse, IfOk, OnOk, IfErr, OnErr}, Io.{ReadsAtMost, WritesAtMost}};
+ghost use Rattle.std.specs.{Io.KnownBytes.{Keeps, ReadConsumes, WriteAppends}, IoError.{error_kind}};
 ghost use Rattle.cml_stream.specs.Counts.{counted};
 
 use std::io::{ErrorKind, Read, Result as IoResult, Write};

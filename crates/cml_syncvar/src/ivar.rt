@@ -1,7 +1,6 @@
 //! A variable that is written once.
 
-ghost use Rattle.std.specs.Prelude.{◌≡◌, None};
-ghost use Rattle.std.specs.Option.{option_copied};
+ghost use Rattle.std.specs.{Prelude.{◌≡◌, None}, Option.{option_copied}};
 
 use cml_base::{FeedFault, Source};
 use cml_value::Value;
@@ -16,10 +15,8 @@ pub struct IVar {
 
 // What contracts see of this type: its model, which is plain data.
 impl Model for IVar {
-    ghost use Rattle.std.specs.Prelude.{Option};
-    ghost use Rattle.std.specs.Coded.{coded_option};
-    ghost use Rattle.cml_value.specs.Value.{PlainValue};
-    ghost use Rattle.cml_value.specs.Codes.{value_code};
+    ghost use Rattle.std.specs.{Prelude.{Option}, Coded.{coded_option}};
+    ghost use Rattle.cml_value.specs.{Value.{PlainValue}, Codes.{value_code}};
 
     ghost Value = { Option PlainValue };
 
@@ -51,8 +48,7 @@ impl Source for IVar {
     ghost use Rattle.std.specs.Prelude.{true, Option, is_some};
     ghost use Rattle.std.proofs.Common.{rules};
     ghost use Rattle.cml_value.specs.Value.{PlainValue};
-    ghost use Rattle.cml_syncvar.specs.Variables.{held_by, put_into};
-    ghost use Rattle.cml_syncvar.specs.VariableLaws.{put_stays_lit};
+    ghost use Rattle.cml_syncvar.specs.{Variables.{held_by, put_into}, VariableLaws.{put_stays_lit}};
 
     type Want = ();
 

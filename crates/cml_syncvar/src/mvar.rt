@@ -1,7 +1,6 @@
 //! A variable that can be emptied and written again.
 
-ghost use Rattle.std.specs.Prelude.{◌≡◌};
-ghost use Rattle.std.specs.Option.{option_copied};
+ghost use Rattle.std.specs.{Prelude.{◌≡◌}, Option.{option_copied}};
 
 use cml_base::{FeedFault, Source};
 use cml_value::Value;
@@ -27,10 +26,8 @@ pub enum MVarWant {
 }
 
 impl Model for MVar {
-    ghost use Rattle.std.specs.Prelude.{Option};
-    ghost use Rattle.std.specs.Coded.{coded_option};
-    ghost use Rattle.cml_value.specs.Value.{PlainValue};
-    ghost use Rattle.cml_value.specs.Codes.{value_code};
+    ghost use Rattle.std.specs.{Prelude.{Option}, Coded.{coded_option}};
+    ghost use Rattle.cml_value.specs.{Value.{PlainValue}, Codes.{value_code}};
 
     ghost Value = { Option PlainValue };
 
@@ -62,9 +59,7 @@ impl Source for MVar {
     ghost use Rattle.std.specs.Prelude.{true, false, Option, is_some};
     ghost use Rattle.std.proofs.Common.{rules};
     ghost use Rattle.cml_value.specs.Value.{PlainValue};
-    ghost use Rattle.cml_syncvar.specs.Variables.{held_by, put_into};
-    ghost use Rattle.cml_syncvar.specs.Wants.{left_after, copy_for};
-    ghost use Rattle.cml_syncvar.specs.VariableLaws.{put_stays_lit};
+    ghost use Rattle.cml_syncvar.specs.{Variables.{held_by, put_into}, Wants.{left_after, copy_for}, VariableLaws.{put_stays_lit}};
 
     type Want = MVarWant;
 

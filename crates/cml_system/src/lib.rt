@@ -2,8 +2,7 @@
 #![tactic(auto)]
 
 ghost use Rattle.std.specs.Prelude.{◌≡◌, ◌≤◌, IfOk, OnErr};
-ghost use Rattle.cml_host.specs.Between.{between};
-ghost use Rattle.cml_host.specs.Statuses.{Surroundings};
+ghost use Rattle.cml_host.specs.{Between.{between}, Statuses.{Surroundings}};
 ghost use Rattle.cml_system.specs.Systems.{RanOnSystem, NothingCalled, files};
 ghost use Rattle.cml_trace.specs.Live.{max_turns};
 

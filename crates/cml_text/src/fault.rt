@@ -1,7 +1,6 @@
 //! What is wrong with a text, and where.
 ghost use Rattle.std.specs.Prelude.{◌≡◌};
-ghost use Rattle.cml_text.specs.Faults.{kind_number, kind_name};
-ghost use Rattle.cml_text.specs.declared.fault.TextFault.TheVariants.{Memory};
+ghost use Rattle.cml_text.specs.{Faults.{kind_number, kind_name}, declared.fault.TextFault.TheVariants.{Memory}};
 
 use std::alloc::{AllocError, AllocFailed};
 use std::fmt;

@@ -1,8 +1,6 @@
 //! The lists that are open while a text is read.
 ghost use Rattle.std.specs.Prelude.{◌≡◌, ◌+◌, ◌<◌, ◌≤◌, ◌^◌, List, [], ◌∷◌, ◌++◌, IfErr, OnOk, length};
-ghost use Rattle.cml_text.specs.Lexemes.{opening, closing};
-ghost use Rattle.cml_text.specs.Nests.{TakesWord, FaultsAt};
-ghost use Rattle.cml_text.specs.Steps.{lexeme_of, IsLeafWord};
+ghost use Rattle.cml_text.specs.{Lexemes.{opening, closing}, Nests.{TakesWord, FaultsAt}, Steps.{lexeme_of, IsLeafWord}};
 
 use crate::fault::{FaultKind, TextFault};
 use crate::sexpr::{Sexpr, Span};

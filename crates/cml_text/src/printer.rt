@@ -1,6 +1,5 @@
 //! Printing forms.
-ghost use Rattle.std.specs.Prelude.{◌≡◌, ◌<◌, ◌≤◌, ◌++◌, List, [], ◌∷◌, IfOk, IsFalse, OnOk, flat_map, slice_index, length};
-ghost use Rattle.std.specs.List.{prefix_len};
+ghost use Rattle.std.specs.{Prelude.{◌≡◌, ◌<◌, ◌≤◌, ◌++◌, List, [], ◌∷◌, IfOk, IsFalse, OnOk, flat_map, slice_index, length}, List.{prefix_len}};
 ghost use Rattle.std.specs.String.{string_bytes};
 ghost use Rattle.cml_text.specs.Printed.{escaped, quoted, printed, needs_no_escape};
 

@@ -1,13 +1,7 @@
 //! Reading a text.
-ghost use Rattle.std.specs.Prelude.{◌≡◌, ◌<◌, ◌^◌, List, [], IfOk, IfErr, length};
-ghost use Rattle.std.specs.Prelude.{None, Some};
-ghost use Rattle.cml_text.specs.Faults.{PlainFault};
-ghost use Rattle.cml_text.specs.Forms.{PlainSexpr};
-ghost use Rattle.cml_text.specs.Lexemes.{lexemes};
-ghost use Rattle.cml_text.specs.Nests.{words_in};
-ghost use Rattle.cml_text.specs.Steps.{IsFault};
-ghost use Rattle.cml_text.specs.Texts.{Spells, first_fault, fault_of};
-ghost use Rattle.cml_text.specs.Answers.{ReadsAs, FailsWith};
+ghost use Rattle.std.specs.{Prelude.{◌≡◌, ◌<◌, ◌^◌, List, [], IfOk, IfErr, length}, Prelude.{None, Some}};
+ghost use Rattle.cml_text.specs.{Faults.{PlainFault}, Forms.{PlainSexpr}, Lexemes.{lexemes}, Nests.{words_in}, Steps.{IsFault}};
+ghost use Rattle.cml_text.specs.{Texts.{Spells, first_fault, fault_of}, Answers.{ReadsAs, FailsWith}};
 
 use crate::fault::{FaultKind, TextFault};
 use crate::nest::{OpenList, take_word};

@@ -73,8 +73,7 @@ enum Node {
 }
 
 impl Model for Sexpr {
-    ghost use Rattle.cml_text.specs.Forms.{PlainSexpr, nesting};
-    ghost use Rattle.cml_text.specs.FormCodes.{form_code};
+    ghost use Rattle.cml_text.specs.{Forms.{PlainSexpr, nesting}, FormCodes.{form_code}};
 
     ghost Value = { PlainSexpr };
 
@@ -102,9 +101,7 @@ pub enum Shape<'a> {
 
 impl Sexpr {
     ghost use Rattle.std.specs.String.{string_bytes};
-    ghost use Rattle.cml_text.specs.Forms.{span_of, plain_name, plain_int, plain_text, plain_list, plain_forms};
-    ghost use Rattle.cml_text.specs.Shapes.{HasShape};
-    ghost use Rattle.cml_text.specs.Printed.{printed_form};
+    ghost use Rattle.cml_text.specs.{Forms.{span_of, plain_name, plain_int, plain_text, plain_list, plain_forms}, Shapes.{HasShape}, Printed.{printed_form}};
 
     pub(crate) fn name(span: Span, name: Name) -> Sexpr
         ensures { result ≡ plain_name span name }

@@ -1,8 +1,6 @@
 //! The lexemes of a text, one at a time.
 ghost use Rattle.std.specs.Prelude.{◌≡◌, ℕ, ◌+◌, ◌<◌, ◌^◌, IsTrue, IfOk, IfErr, MatchOption, ◌||◌, ◌==◌, [], ◌∷◌, length, drop, slice_index};
-ghost use Rattle.std.specs.List.{prefix_len, list_all};
-ghost use Rattle.std.specs.Char.{is_ascii_digit};
-ghost use Rattle.std.specs.Str.{chars};
+ghost use Rattle.std.specs.{List.{prefix_len, list_all}, Char.{is_ascii_digit}, Str.{chars}};
 ghost use Rattle.unicode_ident.specs.Ident.{is_xid_start, is_xid_continue};
 ghost use Rattle.cml_text.specs.Lexemes.{is_separator, is_delimiter, is_token_byte, is_comment_byte, is_plain, are_digits, is_number, is_name, is_word, is_operator, number_value, unescaped, token_lexeme, leaf};
 ghost use Rattle.cml_text.specs.Steps.{lexemes_of, StepsTo, BeginsWithFault, IsQuoted, IsLexeme, IsLeaf, IsLeafWord};

@@ -1,9 +1,8 @@
 //! Why a line is no command, in a sentence.
 
-ghost use Rattle.std.specs.Prelude.{◌≡◌, ◌++◌, OnOk, List, ℕ};
-ghost use Rattle.std.specs.String.{string_bytes};
-ghost use Rattle.cml_trace.specs.Bads as spec;
+ghost use Rattle.std.specs.{Prelude.{◌≡◌, ◌++◌, OnOk, List, ℕ}, String.{string_bytes}};
 ghost use Rattle.cml_trace.specs.Keywords.{head_of};
+ghost use Rattle.cml_trace.specs.Bads as spec;
 
 use crate::keyword::{Keyword, head_of};
 use cml_text::{FaultKind, Sexpr, TextFault, read};

@@ -1,20 +1,12 @@
 //! The engine that answers a trace.
 
-ghost use Rattle.std.specs.Prelude.{◌≡◌, ◌≤◌, ◌+◌, [], length, Ok, IfOk, IfErr, OnErr, OnOk};
-ghost use Rattle.std.specs.List.{flat_map};
-ghost use Rattle.cml_scan.specs.Scan.{scan};
-ghost use Rattle.cml_scan.specs.World.{PlainWorld};
+ghost use Rattle.std.specs.{Prelude.{◌≡◌, ◌≤◌, ◌+◌, [], length, Ok, IfOk, IfErr, OnErr, OnOk}, List.{flat_map}, String.{string_bytes}};
+ghost use Rattle.cml_scan.specs.{Scan.{scan}, World.{PlainWorld}};
 ghost use Rattle.cml_book.specs.Step.{replies_of, world_after, empty_world};
-ghost use Rattle.cml_trace.specs.Answers.{trace_lines, max_input};
-ghost use Rattle.cml_stream.specs.Counts.{Calls, most_reads};
-ghost use Rattle.std.specs.String.{string_bytes};
-ghost use Rattle.cml_trace.specs.Explained.{IsExplained};
-ghost use Rattle.cml_trace.specs.Faults.{HasCause, IsWriteFailure};
-ghost use Rattle.cml_trace.specs.Lines.{TraceLines};
-ghost use Rattle.cml_trace.specs.Pages.{Tells, TellsStart};
-ghost use Rattle.cml_trace.specs.Replies.{reply_text, rows_text};
-ghost use Rattle.cml_stream.specs.Streams.{stream, Takes, TakesStart};
+ghost use Rattle.cml_trace.specs.{Answers.{trace_lines, max_input}, Explained.{IsExplained}, Faults.{HasCause, IsWriteFailure}, Lines.{TraceLines}};
+ghost use Rattle.cml_trace.specs.{Pages.{Tells, TellsStart}, Replies.{reply_text, rows_text}};
 ghost use Rattle.cml_trace.specs.Runs.{AreAnswered, AreBegun, AreWritten, AreWrittenTo, IsAnswered, IsBroken};
+ghost use Rattle.cml_stream.specs.{Counts.{Calls, most_reads}, Streams.{stream, Takes, TakesStart}};
 
 use crate::batch::{Batch, Stop, gather};
 use crate::explained::explain_trace;

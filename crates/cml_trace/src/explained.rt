@@ -1,16 +1,12 @@
 //! Traces that are explained: why commands were refused, and why a line is bad.
 
-ghost use Rattle.std.specs.Prelude.{◌≡◌, ◌≤◌, ◌++◌, [], length, IfOk, OnOk, List, ℕ};
-ghost use Rattle.std.specs.String.{string_bytes};
-ghost use Rattle.cml_book.specs.declared.command.Command.{Command};
-ghost use Rattle.cml_book.specs.Step.{step, empty_world};
+ghost use Rattle.std.specs.{Prelude.{◌≡◌, ◌≤◌, ◌++◌, [], length, IfOk, OnOk, List, ℕ}, String.{string_bytes}};
+ghost use Rattle.cml_book.specs.{declared.command.Command.{Command}, Step.{step, empty_world}};
 ghost use Rattle.cml_refused.specs.Whys.{why_of};
-ghost use Rattle.cml_trace.specs.declared.order.Request.TheVariants as order;
-ghost use Rattle.cml_trace.specs.Answers.{after_order, trace_lines, max_input};
-ghost use Rattle.cml_trace.specs.Explained as spec;
-ghost use Rattle.cml_trace.specs.Explained.{Explains, line_said, told_of};
-ghost use Rattle.cml_trace.specs.Orders.{AsksFor};
+ghost use Rattle.cml_trace.specs.{Answers.{after_order, trace_lines, max_input}, Explained.{Explains, line_said, told_of}, Orders.{AsksFor}};
 ghost use Rattle.cml_trace.specs.Bads.{IsBadFor};
+ghost use Rattle.cml_trace.specs.declared.order.Request.TheVariants as order;
+ghost use Rattle.cml_trace.specs.Explained as spec;
 
 use crate::bad::push_bad;
 use crate::line::{Lines, order_from};

@@ -1,8 +1,8 @@
 //! The numbers and values that forms of a trace are.
 
 ghost use Rattle.std.specs.Prelude.{◌≡◌, map, IfOk, option_map};
-ghost use Rattle.cml_trace.specs.ValueForms as spec;
 ghost use Rattle.cml_trace.specs.Given.{all_of};
+ghost use Rattle.cml_trace.specs.ValueForms as spec;
 
 use crate::keyword::{Keyword, keyword_from, keyword_of};
 use cml_text::{Sexpr, Shape, number_from};

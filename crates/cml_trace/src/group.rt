@@ -4,8 +4,8 @@ ghost use Rattle.std.specs.Prelude.{◌≡◌, ◌<◌, map, IfOk, IfSome, IfNon
 ghost use Rattle.cml_value.specs.Group as plain;
 ghost use Rattle.cml_text.specs.Forms.{plain_forms, nesting, nesting_of};
 ghost use Rattle.cml_text.specs.Numbers as number_spec;
-ghost use Rattle.cml_trace.specs.Keywords as keyword_spec;
 ghost use Rattle.cml_trace.specs.Given.{both};
+ghost use Rattle.cml_trace.specs.Keywords as keyword_spec;
 ghost use Rattle.cml_trace.specs.GroupForms as spec;
 
 use crate::form::{number_and_value, value_from, values_from};

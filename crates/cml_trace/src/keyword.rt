@@ -1,7 +1,6 @@
 //! The keywords of a trace.
 
-ghost use Rattle.std.specs.Prelude.{◌≡◌, find, option_map};
-ghost use Rattle.std.specs.Str.{bytes_eq};
+ghost use Rattle.std.specs.{Prelude.{◌≡◌, find, option_map}, Str.{bytes_eq}};
 ghost use Rattle.cml_trace.specs.Keywords as spec;
 
 use cml_text::{Sexpr, Shape};

@@ -1,9 +1,7 @@
 //! The lines of a trace, and what each asks for.
 
 ghost use Rattle.std.specs.Prelude.{◌≡◌, ◌∷◌, [], ◌++◌, ◌+◌, ◌-◌, ◌^◌, ◌<◌, ◌≤◌, length, MatchOption, IfOk, IfSome, IfNone};
-ghost use Rattle.cml_trace.specs.Answers.{trace_lines};
-ghost use Rattle.cml_trace.specs.Lines.{HasNoFeed, lines_behind, room_of};
-ghost use Rattle.cml_trace.specs.Orders.{AsksFor, IsBad};
+ghost use Rattle.cml_trace.specs.{Answers.{trace_lines}, Lines.{HasNoFeed, lines_behind, room_of}, Orders.{AsksFor, IsBad}};
 
 use crate::order::{Request, order_of};
 use cml_text::{TextFault, read};

@@ -2,10 +2,8 @@
 
 ghost use Rattle.std.specs.Prelude.{◌≡◌, ◌<◌, ◌≤◌, ◌+◌, ◌++◌, ◌^◌, [], length, IsTrue, IfOk, IfErr, OnErr, OnOk};
 ghost use Rattle.cml_book.specs.Step.{empty_world};
-ghost use Rattle.cml_stream.specs.Counts.{Calls, counted};
-ghost use Rattle.cml_stream.specs.Streams.{Stream, stream, Supplies};
-ghost use Rattle.cml_trace.specs.Faults.{IsWriteFailure};
-ghost use Rattle.cml_trace.specs.Lines.{HasNoFeed, lines_from};
+ghost use Rattle.cml_stream.specs.{Counts.{Calls, counted}, Streams.{Stream, stream, Supplies}};
+ghost use Rattle.cml_trace.specs.{Faults.{IsWriteFailure}, Lines.{HasNoFeed, lines_from}};
 ghost use Rattle.cml_trace.specs.Live.{max_turns, IsTurn, IsTurnBroken, TurnIsCut, HasTurnCause, IsHeardOut, LiveIsStopped, HasLiveCause, IsFlushed};
 ghost use Rattle.cml_trace.specs.Runs.{AreWritten, AreWrittenTo};
 
@@ -45,8 +43,7 @@ pub struct Begun {
 }
 
 impl Model for Begun {
-    ghost use Rattle.cml_trace.specs.Lines.{HasNoFeed};
-    ghost use Rattle.cml_trace.specs.Live.{PlainBegun};
+    ghost use Rattle.cml_trace.specs.{Lines.{HasNoFeed}, Live.{PlainBegun}};
 
     ghost Value = { PlainBegun };
 

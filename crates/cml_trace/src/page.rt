@@ -1,11 +1,8 @@
 //! Text on its way out.
 
-ghost use Rattle.std.specs.Prelude.{◌≡◌, [], OnOk, OnErr, ℕ, take};
-ghost use Rattle.std.specs.String.{string_bytes};
-ghost use Rattle.cml_stream.specs.Counts.{counted};
-ghost use Rattle.cml_trace.specs.Faults.{IsWriteFailure};
-ghost use Rattle.cml_trace.specs.Pages.{Tells, TellsStart};
-ghost use Rattle.cml_stream.specs.Streams.{stream, Takes};
+ghost use Rattle.std.specs.{Prelude.{◌≡◌, [], OnOk, OnErr, ℕ, take}, String.{string_bytes}};
+ghost use Rattle.cml_stream.specs.{Counts.{counted}, Streams.{stream, Takes}};
+ghost use Rattle.cml_trace.specs.{Faults.{IsWriteFailure}, Pages.{Tells, TellsStart}};
 
 use crate::fault::TraceFault;
 use cml_stream::Counting;
@@ -24,8 +21,7 @@ pub struct Page {
 }
 
 impl Model for Page {
-    ghost use Rattle.std.specs.Prelude.{ℕ, List};
-    ghost use Rattle.std.specs.String.{string_bytes};
+    ghost use Rattle.std.specs.{Prelude.{ℕ, List}, String.{string_bytes}};
 
     ghost Value = { List ℕ };
 

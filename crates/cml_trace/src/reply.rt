@@ -1,12 +1,8 @@
 //! The lines that answer commands.
 
-ghost use Rattle.std.specs.Prelude.{◌≡◌, ◌++◌, map, OnOk, OnErr};
-ghost use Rattle.std.specs.List.{flat_map};
-ghost use Rattle.std.specs.String.{string_bytes};
+ghost use Rattle.std.specs.{Prelude.{◌≡◌, ◌++◌, map, OnOk, OnErr}, List.{flat_map}, String.{string_bytes}};
 ghost use Rattle.cml_value.specs.Value.{values};
-ghost use Rattle.cml_trace.specs.Answers.{bad_line};
-ghost use Rattle.cml_trace.specs.Faults.{IsWriteFailure};
-ghost use Rattle.cml_trace.specs.Pages.{Tells, TellsStart};
+ghost use Rattle.cml_trace.specs.{Answers.{bad_line}, Faults.{IsWriteFailure}, Pages.{Tells, TellsStart}};
 ghost use Rattle.cml_trace.specs.Replies as spec;
 ghost use Rattle.cml_stream.specs.Streams.{stream};
 

@@ -40,10 +40,7 @@ pub enum GroupKind {
 
 impl Model for Group {
     ghost use Rattle.std.specs.Prelude.{◌≡◌};
-    ghost use Rattle.cml_value.specs.Group.{PlainGroup, group_depth, group_nodes};
-    ghost use Rattle.cml_value.specs.Sizes.{kept};
-    ghost use Rattle.cml_value.specs.GroupHeights.{group_height};
-    ghost use Rattle.cml_value.specs.GroupCodes.{group_code};
+    ghost use Rattle.cml_value.specs.{Group.{PlainGroup, group_depth, group_nodes}, Sizes.{kept}, GroupHeights.{group_height}, GroupCodes.{group_code}};
 
     ghost Value = { PlainGroup };
 

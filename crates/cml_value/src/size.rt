@@ -1,8 +1,7 @@
 //! The depth and the number of nodes of a value or an event, as they are kept with it.
 
 ghost use Rattle.std.specs.Prelude.{◌≡◌, ◌+◌, max, is_some, IfSome};
-ghost use Rattle.cml_value.specs.Limits.{is_within};
-ghost use Rattle.cml_value.specs.Sizes.{kept};
+ghost use Rattle.cml_value.specs.{Limits.{is_within}, Sizes.{kept}};
 
 /// A depth and a number of nodes, both saturated at `u64::MAX`.
 #[derive(Clone, Copy)]

@@ -151,18 +151,14 @@ pub enum EventKind {
 }
 
 impl Model for Value {
-    ghost use Rattle.cml_value.specs.Value.{PlainValue};
-    ghost use Rattle.cml_value.specs.Heights.{value_height};
-    ghost use Rattle.cml_value.specs.Codes.{value_code};
+    ghost use Rattle.cml_value.specs.{Value.{PlainValue}, Heights.{value_height}, Codes.{value_code}};
 
     ghost Value = { PlainValue };
 
     ghost coded = { value_code };
 
     ghost use Rattle.std.specs.Prelude.{◌≡◌};
-    ghost use Rattle.cml_value.specs.Views.{plain_value};
-    ghost use Rattle.cml_value.specs.Limits.{value_depth, value_nodes};
-    ghost use Rattle.cml_value.specs.Sizes.{kept};
+    ghost use Rattle.cml_value.specs.{Views.{plain_value}, Limits.{value_depth, value_nodes}, Sizes.{kept}};
 
     ghost view = { λ a. plain_value a.kind };
 
@@ -170,13 +166,8 @@ impl Model for Value {
 }
 
 impl Model for Both {
-    ghost use Rattle.std.specs.Prelude.{◌≡◌, ◌+◌, max};
-    ghost use Rattle.std.specs.Coded.{coded×};
-    ghost use Rattle.cml_value.specs.Value.{PlainValue, pair};
-    ghost use Rattle.cml_value.specs.Codes.{value_code};
-    ghost use Rattle.cml_value.specs.Sizes.{kept};
-    ghost use Rattle.cml_value.specs.Limits.{value_depth, value_nodes};
-    ghost use Rattle.cml_value.specs.Heights.{value_height};
+    ghost use Rattle.std.specs.{Prelude.{◌≡◌, ◌+◌, max}, Coded.{coded×}};
+    ghost use Rattle.cml_value.specs.{Value.{PlainValue, pair}, Codes.{value_code}, Sizes.{kept}, Limits.{value_depth, value_nodes}, Heights.{value_height}};
 
     ghost Value = { PlainValue × PlainValue };
 
@@ -191,9 +182,7 @@ impl Model for Both {
 }
 
 impl Both {
-    ghost use Rattle.cml_value.specs.Value.{pair};
-    ghost use Rattle.cml_value.specs.Limits.{value_depth, value_nodes};
-    ghost use Rattle.cml_value.specs.Sizes.{kept};
+    ghost use Rattle.cml_value.specs.{Value.{pair}, Limits.{value_depth, value_nodes}, Sizes.{kept}};
 
     /// The first.
     pub fn first(&self) -> &Value
@@ -219,17 +208,14 @@ impl Both {
 }
 
 impl Model for FnRef {
-    ghost use Rattle.cml_value.specs.Value.{PlainFunction, function, values};
-    ghost use Rattle.cml_value.specs.Heights.{function_height};
-    ghost use Rattle.cml_value.specs.Codes.{function_code};
+    ghost use Rattle.cml_value.specs.{Value.{PlainFunction, function, values}, Heights.{function_height}, Codes.{function_code}};
 
     ghost Value = { PlainFunction };
 
     ghost coded = { function_code };
 
     ghost use Rattle.std.specs.Prelude.{◌≡◌};
-    ghost use Rattle.cml_value.specs.Limits.{values_depth, values_nodes};
-    ghost use Rattle.cml_value.specs.Sizes.{kept};
+    ghost use Rattle.cml_value.specs.{Limits.{values_depth, values_nodes}, Sizes.{kept}};
 
     ghost view = { λ a. function a.func (values a.args.value.all.items) };
 
@@ -246,9 +232,7 @@ impl Model for FnRef {
 }
 
 impl Model for Base {
-    ghost use Rattle.cml_value.specs.Value.{PlainBase};
-    ghost use Rattle.cml_value.specs.Heights.{base_height};
-    ghost use Rattle.cml_value.specs.Codes.{base_code};
+    ghost use Rattle.cml_value.specs.{Value.{PlainBase}, Heights.{base_height}, Codes.{base_code}};
 
     ghost Value = { PlainBase };
 
@@ -262,18 +246,14 @@ impl Model for Base {
 }
 
 impl Model for Event {
-    ghost use Rattle.cml_value.specs.Value.{PlainEvent};
-    ghost use Rattle.cml_value.specs.Heights.{event_height};
-    ghost use Rattle.cml_value.specs.Codes.{event_code};
+    ghost use Rattle.cml_value.specs.{Value.{PlainEvent}, Heights.{event_height}, Codes.{event_code}};
 
     ghost Value = { PlainEvent };
 
     ghost coded = { event_code };
 
     ghost use Rattle.std.specs.Prelude.{◌≡◌};
-    ghost use Rattle.cml_value.specs.Views.{plain_event};
-    ghost use Rattle.cml_value.specs.Limits.{event_depth, event_nodes};
-    ghost use Rattle.cml_value.specs.Sizes.{kept};
+    ghost use Rattle.cml_value.specs.{Views.{plain_event}, Limits.{event_depth, event_nodes}, Sizes.{kept}};
 
     ghost view = { λ a. plain_event a.kind };
 

@@ -2,8 +2,7 @@
 
 ghost use Rattle.std.specs.Prelude.{◌≡◌, ℕ, List, IfOk, IfSome, IfNone, OnErr};
 ghost use Rattle.cml_check.specs.Syntax.{PlainItem};
-ghost use Rattle.cml_step.specs.Answers.{top_await, nothing};
-ghost use Rattle.cml_step.specs.Machines.{PlainMachine, machine_term, Fits};
+ghost use Rattle.cml_step.specs.{Answers.{top_await, nothing}, Machines.{PlainMachine, machine_term, Fits}};
 ghost use Rattle.cml_work.specs.Desks.{WantedMemory};
 
 use cml_check::Prog;

@@ -3,8 +3,7 @@
 ghost use Rattle.std.specs.Prelude.{◌≡◌, ◌≢◌, ◌↔◌, ◌<◌, [], IfOk, OnErr, IsTrue, true, false, length};
 ghost use Rattle.cml_hub.specs.Kept.{TakesSlice, NoneOut};
 ghost use Rattle.cml_work.specs.Finds.{RunsHere, RunsHereOrNot, TakesOnce, LooksOnce, FindsNothing, HaveOneState, TellsReport};
-ghost use Rattle.cml_work.specs.Marks.{BeginsWith, IsKeeper, WasShown, shown_of};
-ghost use Rattle.cml_work.specs.Works.{OpenedBy, GoesOnFrom, IsJob, opening_of};
+ghost use Rattle.cml_work.specs.{Marks.{BeginsWith, IsKeeper, WasShown, shown_of}, Works.{OpenedBy, GoesOnFrom, IsJob, opening_of}};
 
 use crate::marks::{Board, Mark, learn, show};
 use crate::opening::Opening;
@@ -36,9 +35,7 @@ pub(crate) struct Locked<O: Opening, C: Chooser + Drop> {
 }
 
 impl<O: Opening, C: Chooser + Drop> Model for Locked<O, C> {
-    ghost use Rattle.cml_work.specs.Held.{Held, locked_code};
-    ghost use Rattle.cml_work.specs.Marks.{BeginsWith, IsKeeper, known_of};
-    ghost use Rattle.cml_work.specs.Works.{OpenedBy};
+    ghost use Rattle.cml_work.specs.{Held.{Held, locked_code}, Marks.{BeginsWith, IsKeeper, known_of}, Works.{OpenedBy}};
 
     ghost Value = { Held };
 

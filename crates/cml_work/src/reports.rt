@@ -1,11 +1,9 @@
 //! Reports written a line after another. It takes no memory.
 
-ghost use Rattle.std.specs.Prelude.{◌≡◌};
-ghost use Rattle.std.specs.List.{flat_map};
+ghost use Rattle.std.specs.{Prelude.{◌≡◌}, List.{flat_map}};
 ghost use Rattle.cml_monitor.specs.Reports.{report_row_line, report_text};
 ghost use Rattle.cml_stream.specs.Streams.{stream};
-ghost use Rattle.cml_work.specs.Lines.{waits_line};
-ghost use Rattle.cml_work.specs.Seen.{texts_of, IsSentOut, failed_with};
+ghost use Rattle.cml_work.specs.{Lines.{waits_line}, Seen.{texts_of, IsSentOut, failed_with}};
 
 use crate::lines::{head_line, row_line, wait_line};
 use cml_monitor::Report;

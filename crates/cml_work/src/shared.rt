@@ -2,8 +2,7 @@
 
 ghost use Rattle.std.specs.Prelude.{◌≡◌, [], Some, IfOk, IfSome, slice_get};
 ghost use Rattle.cml_hub.specs.Dones.{GoesOn};
-ghost use Rattle.cml_work.specs.Marks.{BeginsWith, IsKeeper, WasShown, shown_of};
-ghost use Rattle.cml_work.specs.Works.{OpenedBy, opening_of};
+ghost use Rattle.cml_work.specs.{Marks.{BeginsWith, IsKeeper, WasShown, shown_of}, Works.{OpenedBy, opening_of}};
 
 use crate::desk::{Desk, refused};
 use crate::locked::{Found, Locked, Told};

@@ -3,8 +3,7 @@
 ghost use Rattle.std.specs.Prelude.{◌≡◌, Some, IfOk, OnErr};
 ghost use Rattle.cml_monitor.specs.Reports.{report_text};
 ghost use Rattle.cml_stream.specs.Streams.{stream, Takes};
-ghost use Rattle.cml_work.specs.Marks.{BeginsWith, WasShown, shown_of};
-ghost use Rattle.cml_work.specs.Seen.{texts_of, BreaksOff, IsShownText, IsWatched, failed_after, failed_watching};
+ghost use Rattle.cml_work.specs.{Marks.{BeginsWith, WasShown, shown_of}, Seen.{texts_of, BreaksOff, IsShownText, IsWatched, failed_after, failed_watching}};
 
 use crate::desk::Desk;
 use crate::fault::WatchFault;

@@ -1,8 +1,7 @@
 //! One worker.
 
 ghost use Rattle.std.specs.Prelude.{◌≡◌, IfOk, IfSome, IfNone, OnOk, OnErr};
-ghost use Rattle.cml_step.specs.Answers.{top_await, nothing};
-ghost use Rattle.cml_step.specs.Machines.{machine_term, Fits};
+ghost use Rattle.cml_step.specs.{Answers.{top_await, nothing}, Machines.{machine_term, Fits}};
 ghost use Rattle.cml_work.specs.Desks.{WantedMemory};
 
 use crate::desk::{Desk, Gate};

@@ -1,8 +1,7 @@
 //! A worker by itself, over a desk in memory.
 
 ghost use Rattle.std.specs.Prelude.{◌≡◌, IfOk};
-ghost use Rattle.cml_step.specs.Answers.{top_await, nothing};
-ghost use Rattle.cml_step.specs.Machines.{machine_term, Fits};
+ghost use Rattle.cml_step.specs.{Answers.{top_await, nothing}, Machines.{machine_term, Fits}};
 
 use crate::making::{MEMORY, program_of};
 use cml_check::Prog;

@@ -1,9 +1,7 @@
 //! The forced members of a choice.
 
-ghost use Rattle.std.specs.Prelude.{◌≡◌, ◌↔◌, ◌+◌, ◌++◌, [], IfOk, OnOk, is_some, IfSome, IsTrue};
-ghost use Rattle.std.specs.List.{flat_map};
-ghost use Rattle.cml_value.specs.Group.{groups, groups_depth, groups_nodes};
-ghost use Rattle.cml_value.specs.Limits.{is_within};
+ghost use Rattle.std.specs.{Prelude.{◌≡◌, ◌↔◌, ◌+◌, ◌++◌, [], IfOk, OnOk, is_some, IfSome, IsTrue}, List.{flat_map}};
+ghost use Rattle.cml_value.specs.{Group.{groups, groups_depth, groups_nodes}, Limits.{is_within}};
 
 use cml_value::Group;
 use std::alloc::{AllocError, Global};
@@ -18,11 +16,8 @@ pub struct Done {
 }
 
 impl Model for Done {
-    ghost use Rattle.std.specs.Prelude.{List};
-    ghost use Rattle.std.specs.List.{flat_map};
-    ghost use Rattle.std.specs.Coded.{coded_list};
-    ghost use Rattle.cml_value.specs.Group.{PlainGroup};
-    ghost use Rattle.cml_value.specs.GroupCodes.{group_code};
+    ghost use Rattle.std.specs.{Prelude.{List}, List.{flat_map}, Coded.{coded_list}};
+    ghost use Rattle.cml_value.specs.{Group.{PlainGroup}, GroupCodes.{group_code}};
 
     ghost Value = { List PlainGroup };
 

@@ -1,10 +1,8 @@
 //! What stands around the place where a forcing goes on.
 
 ghost use Rattle.std.specs.Prelude.{◌≡◌, ◌↔◌, IsTrue, ℕ, ◌+◌, ◌≤◌, ◌∷◌, ◌++◌, length, drop, IfOk, OnOk, is_some, IfSome};
-ghost use Rattle.cml_value.specs.Value.{events};
-ghost use Rattle.cml_value.specs.Limits.{is_within, events_depth, events_nodes, event_nodes, event_fits, max_depth, max_nodes};
-ghost use Rattle.cml_group.specs.Frames.{plug, side_depth, side_nodes, sides_depth, sides_nodes, in_scope, IsRoom};
-ghost use Rattle.cml_group.specs.FrameViews.{plain_frame};
+ghost use Rattle.cml_value.specs.{Value.{events}, Limits.{is_within, events_depth, events_nodes, event_nodes, event_fits, max_depth, max_nodes}};
+ghost use Rattle.cml_group.specs.{Frames.{plug, side_depth, side_nodes, sides_depth, sides_nodes, in_scope, IsRoom}, FrameViews.{plain_frame}};
 
 use crate::force::done::Done;
 use cml_value::{Event, FnRef, MAX_DEPTH, MAX_NODES, NackId};
@@ -30,8 +28,7 @@ pub enum FrameKind {
 }
 
 impl Model for Frame {
-    ghost use Rattle.cml_group.specs.Frames.{PlainFrame};
-    ghost use Rattle.cml_group.specs.FrameCodes.{frame_code};
+    ghost use Rattle.cml_group.specs.{Frames.{PlainFrame}, FrameCodes.{frame_code}};
 
     ghost Value = { PlainFrame };
 

@@ -2,10 +2,7 @@
 
 ghost use Rattle.std.specs.Prelude.{◌≡◌, ◌↔◌, IsTrue, ℕ, true, false, ◌++◌, ◌∷◌, [], drop, map, Option, Some, IfOk};
 ghost use Rattle.cml_value.specs.Value.{wrap, scope, choose, events};
-ghost use Rattle.cml_group.specs.Force.{event_of};
-ghost use Rattle.cml_group.specs.Frames.{framed, plug, choice};
-ghost use Rattle.cml_group.specs.FrameViews.{plain_hole, plain_part, hole_ask, IsRoomOf};
-ghost use Rattle.cml_group.specs.Asks.{Asks};
+ghost use Rattle.cml_group.specs.{Force.{event_of}, Frames.{framed, plug, choice}, FrameViews.{plain_hole, plain_part, hole_ask, IsRoomOf}, Asks.{Asks}};
 
 use crate::force::Next;
 use crate::force::done::Done;

@@ -1,8 +1,7 @@
 //! How deep a group nests, and of how many nodes it is made. Both are kept with it, so nothing here walks through it.
 
 ghost use Rattle.std.specs.Prelude.{◌≡◌, ◌+◌, min, is_some, IfSome};
-ghost use Rattle.cml_value.specs.Group.{group_depth, group_nodes, group_fits};
-ghost use Rattle.cml_value.specs.Limits.{is_within};
+ghost use Rattle.cml_value.specs.{Group.{group_depth, group_nodes, group_fits}, Limits.{is_within}};
 
 use crate::group::Group;
 use crate::value::limits::{MAX_DEPTH, MAX_NODES};

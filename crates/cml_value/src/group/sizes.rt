@@ -1,9 +1,7 @@
 //! The depth and the nodes that are kept with groups, computed from those that their parts keep.
 
 ghost use Rattle.std.specs.Prelude.{◌≡◌};
-ghost use Rattle.cml_value.specs.Group.{groups, group_depth, groups_depth, group_nodes, groups_nodes};
-ghost use Rattle.cml_value.specs.GroupViews.{plain_group};
-ghost use Rattle.cml_value.specs.Sizes.{kept};
+ghost use Rattle.cml_value.specs.{Group.{groups, group_depth, groups_depth, group_nodes, groups_nodes}, GroupViews.{plain_group}, Sizes.{kept}};
 
 use crate::group::{Group, GroupKind};
 use crate::size::Size;

@@ -1,7 +1,6 @@
 //! The text of a value.
 
-ghost use Rattle.std.specs.Prelude.{◌≡◌, ◌++◌, IfOk, OnOk, encode_utf8};
-ghost use Rattle.std.specs.String.{string_bytes};
+ghost use Rattle.std.specs.{Prelude.{◌≡◌, ◌++◌, IfOk, OnOk, encode_utf8}, String.{string_bytes}};
 ghost use Rattle.cml_value.specs.Show.{escaped_text, shown_text, shown, shown_number};
 
 use crate::value::{Value, ValueKind};

@@ -3,8 +3,7 @@
 ghost use Rattle.std.specs.Prelude.{◌≡◌};
 ghost use Rattle.cml_value.specs.Value.{values, events};
 ghost use Rattle.cml_value.specs.Limits.{value_depth, values_depth, base_depth, function_depth, event_depth, events_depth, value_nodes, values_nodes, base_nodes, function_nodes, event_nodes, events_nodes};
-ghost use Rattle.cml_value.specs.Sizes.{kept};
-ghost use Rattle.cml_value.specs.Views.{plain_value, plain_event};
+ghost use Rattle.cml_value.specs.{Sizes.{kept}, Views.{plain_value, plain_event}};
 
 use crate::size::Size;
 use crate::value::{Base, BaseKind, Event, EventKind, FnRef, Value, ValueKind};
