@@ -38,8 +38,8 @@ pub const MAX_OBJECTS: usize = 65_536;
 pub struct Book<T: Table> {
     pub(crate) state: State,
     pub(crate) table: T,
-    // empty between the calls; their room is for the lights that a commit turns on, and those that it turns off, and for those of which a
-    // wait tells whether they are lit
+    // Kept for their room: both are empty between calls. In a call `lit` takes the lights that are turned on or are found lit, `unlit`
+    // those that are turned off or are found not lit.
     lit: Vec<Light>,
     unlit: Vec<Light>,
 }
@@ -205,7 +205,7 @@ impl<T: Table> Book<T> {
     /// Takes the row: its parties go on, with what it hands them.
     ///
     /// # Errors
-    /// Refused exactly where the row is not in the table; or memory runs out. Over a table whose changes are sure, memory runs out
+    /// Refused exactly where the row is not in the table; or memory runs out. Over a table whose changes are sure (`Table::SURE`), memory runs out
     /// only where the row reads a variable and leaves its value there, since then a copy is made.
     pub fn commit(&mut self, alloc: Global, row: Meet) -> Result<Committed, Fault>
         ensures step { Does result (commit_spec.commit self.old row) self.old self.new }
@@ -220,7 +220,7 @@ impl<T: Table> Book<T> {
     /// Takes the row, which is known to be in the table, as [`commit`](Book::commit) does: it is not looked for again.
     ///
     /// # Errors
-    /// Memory runs out. Over a table whose changes are sure, only where the row reads a variable and leaves its value there.
+    /// Memory runs out. Over a table whose changes are sure (`Table::SURE`), only where the row reads a variable and leaves its value there.
     pub fn commit_known(&mut self, alloc: Global, row: Meet) -> Result<Committed, Fault>
         requires { has_row (scan self.old) row ≡ true }
         ensures step { Does result (commit_spec.commit self.old row) self.old self.new }

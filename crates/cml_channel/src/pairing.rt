@@ -1,4 +1,4 @@
-//! The kinds of objects over which two threads meet. Here they are listed; what is said of each kind is said by its `Paired`.
+//! The kinds of objects over which two threads meet: channels and swap channels. What each kind decides stands in its `Paired`.
 
 ghost use Rattle.std.specs.Prelude.{◌≡◌, true, if◌then◌else◌, option_map};
 ghost use Rattle.cml_scan.specs.Scan.{meets, do_meet as do_meet_in_scan};
@@ -39,7 +39,7 @@ pub struct SidePlace {
 }
 
 impl PairedKind {
-    /// Whether the sides of an object of the kind are alike, so that any two of them meet.
+    /// Whether all sides on an object of this kind are alike, so that any two of them meet.
     pub fn one_lane(self) -> bool
         ensures { result ≡ spec.one_lane self }
     {
@@ -49,9 +49,9 @@ impl PairedKind {
         }
     }
 
-    /// The partners of a head of this thread, in the lane where its partners stand: the offers of all other threads;
-    /// where all sides are alike, those of the threads above it alone, so that each pair stands once, the lower thread
-    /// first.
+    /// Whose offers can be partners of an offer of this thread that is the head. On a channel, those of all other
+    /// threads. Where all sides are alike, only those of threads with a higher number: so each pair stands once, with
+    /// the lower thread first.
     pub fn partner_threads(self, tid: Tid) -> PartnerThreads
         ensures { result ≡ spec.partner_threads self tid }
     {
@@ -97,8 +97,8 @@ impl SidePlace {
     }
 }
 
-/// Whether leaves of the two threads that wait for these base events communicate, the first as the head. The program does not ask this: of
-/// two given leaves it asks `do_meet` of `cml_index`, and partners are looked for in lanes.
+/// Whether two leaves communicate, the first as the head: leaves of these threads that wait for these base events. The program does not call
+/// this. For two given leaves it calls `do_meet` of `cml_index`, and it finds partners in lanes.
 #[tactic(auto, using(crate::proofs::Pairs::do_meet_by_place))]
 pub fn do_meet(head: Tid, first: &Base, other: Tid, second: &Base) -> bool
     ensures { result ≡ do_meet_in_scan head.0 first.now other.0 second.now }
@@ -109,7 +109,7 @@ pub fn do_meet(head: Tid, first: &Base, other: Tid, second: &Base) -> bool
     }
 }
 
-// What the two that meet in this kind are given.
+// What the two threads that meet over an object of this kind are given.
 fn hands_in<P: Paired>(head: Base, other: Base) -> (Value, Value)
     requires { spec.do_meet_in P.do_meet (P.side_of head) (P.side_of other) ≡ true }
     ensures { spec.HandedIn P.handed (P.side_of head) (P.side_of other) result }

@@ -307,7 +307,7 @@ impl Hub {
         self.marks.is_idle() && self.course.is_still() && self.course.next_alarm().is_none()
     }
 
-    // Whether the budget is used, where the schedule has led.
+    // Whether the items so far have used the budget.
     fn is_spent(&self) -> bool
         ensures spent { result ≡ nat_le self.now.budget self.now.course.used }
         ensures leads { spec.stands (text_of self.now.course.program) self.now.course.items ≡ Some (run_of self.now.course) }
@@ -315,7 +315,7 @@ impl Hub {
         u128::from(self.budget) <= self.course.used()
     }
 
-    // Whether nothing is left to do, or the budget is used, where the schedule has led.
+    // Whether the run is over: nothing is left to do, or the items so far have used the budget.
     fn is_over(&self) -> bool
         ensures over { result ≡ spec.over self.now.budget (run_of self.now.course) }
         ensures leads { spec.stands (text_of self.now.course.program) self.now.course.items ≡ Some (run_of self.now.course) }
@@ -403,8 +403,8 @@ impl Hub {
         Ok(())
     }
 
-    // Takes a row that the chooser picks; or, where there is none and no thread runs, moves the time to the next alarm. Returns whether
-    // one of them was done; where none was and no thread runs, nothing is left to do.
+    // Takes a row that the chooser picks. If there is none and no thread runs, moves the time to the next alarm. Returns whether it did one
+    // of the two. If it did neither and no thread runs, nothing is left to do.
     fn move_on<C: Chooser>(&mut self, alloc: Global, chooser: &mut C) -> Result<bool, AllocError>
         requires all_out { AllOut self.old }
         requires due { NoneDue self.old }
@@ -520,7 +520,7 @@ impl Hub {
         self.marks.call_back()
     }
 
-    // Adds an item, where no slice is out: a turn of the first ready thread; or, where none is ready, a row or a tick. Returns whether
+    // Adds an item; no slice is out. The item is a turn of the first ready thread; or, if none is ready, a row or a tick. Returns whether
     // anything was left to do: so a run asks only once whether a row can be taken.
     fn go_alone<C: Chooser>(&mut self, alloc: Global, chooser: &mut C) -> Result<bool, AllocError>
         requires none_out { NoneOut self.old }
@@ -564,14 +564,14 @@ impl Hub {
         Ok(self.end())
     }
 
-    // Whether `steps` steps of the budget were used since the count of the used ones was `begun`.
+    // Whether at least `steps` steps of the budget have been used since the moment when `begun` had been.
     fn has_used(&self, begun: u128, steps: u32) -> bool
         ensures { IsTrue result ↔ (steps ≤ self.now.course.used - begun) }
     {
         u128::from(steps) <= self.course.used().saturating_sub(begun)
     }
 
-    /// Goes on as [`Hub::run_alone`] does, where no slice is out, until so many steps more of the budget are used, or the run is over.
+    /// Goes on as [`Hub::run_alone`] does, until `steps` more steps of the budget are used or the run is over. No slice is out.
     ///
     /// # Errors
     /// Out of memory. The items and reports that were made before stay. What the chooser picked for the item that was not made is not taken

@@ -11,9 +11,9 @@ use cml_value::{Base, BaseKind, Tid};
 // A lane.
 #[derive(Clone, Copy, PartialEq, Eq)]
 pub(crate) enum Slot {
-    // One side of an object over which two threads meet: those that can stand first there, or those that cannot.
+    // The offers on one object over which two threads meet: those that can be the head there, or those that cannot.
     Side { heads: bool, object: PairedId },
-    // Those who wait for the light.
+    // The offers that wait for the light.
     Waiters(Light),
 }
 
@@ -177,8 +177,9 @@ pub(crate) fn count_in(waits: &[Wait], slot: Slot) -> usize
     count
 }
 
-// For an offer of this thread in this lane: where its partners are, if it can be a head. On a channel they are in the
-// lane of the receivers, which are no heads. A swap channel has one lane alone, and all in it can be heads.
+// If an offer of this thread in this lane can be a head: the lane in which its partners stand, and which threads' offers
+// of that lane they are. On a channel it is the receivers' lane, and no receiver is a head. A swap channel has one lane
+// for all, and each swap in it can be a head.
 fn met_from(slot: Slot, tid: Tid) -> Option<(Slot, PartnerThreads)>
     ensures { result ≡ met_slot slot tid }
 {
@@ -198,8 +199,7 @@ fn met_from(slot: Slot, tid: Tid) -> Option<(Slot, PartnerThreads)>
     }
 }
 
-// For a leaf of this thread with this wait: where its partners are, if it can be a head: the lane, and which of the
-// offers in it. By this the rows are found that a run is offered.
+// The same for a leaf of this thread that waits for this. By this the rows are found among which a run picks.
 pub(crate) fn met_by(wait: Wait, tid: Tid) -> Option<(Slot, PartnerThreads)>
     ensures { result ≡ met_wait wait tid }
 {

@@ -1,6 +1,7 @@
 -- Concurrent ML's rules for one synchronization, as rules of inference by cases on events, after Reppy, Concurrent Programming in ML (1999):
--- what a group offers, when base events happen, and what one step of the world is. A group is an event whose guards and withNacks have been
--- called; the branch of a nack is the event that a withNack's function returned.
+-- what a group offers, when base events happen, and what one step of the world is. A group is an event in which each guard and each withNack
+-- has been replaced by the event that its function returned. What the function of a withNack returned is the branch of its nack. A nack that has
+-- fired can be taken from then on; one that is held can never fire.
 use Rattle.std.specs.Prelude.{ℕ, ◌≡◌, ◌≢◌, ◌<◌, ◌≤◌, List, [], ◌∷◌, ◌++◌, Some, None, slice_get, slice_set}
 use Rattle.cml_value.specs.Value.{PlainValue, unit, PlainFunction, PlainBase, always, send, recv, swap, iget, mtake, mget, mswap, mail_recv, port_recv, join, at_tick, nack}
 use Rattle.cml_value.specs.Group.{PlainGroup, leaf, choose, wrap, scope, PlainGroups, no_groups, groups_and}
@@ -53,7 +54,7 @@ pub data Communicate (t u : ℕ) : PlainBase → PlainBase → PlainValue → Pl
 -- The base event happens by itself and gives this value, and this is the world after it (chapters 3 and 4, appendix A): an alwaysEvt at any time; an iGet
 -- and an mGet where the variable is full, and the value stays; an mTake, which empties it; an mSwap, which leaves its own value there; a
 -- receive from a mailbox or a port, which takes the first item; a join once the thread has ended; a time once it has come; a nack once it has
--- fired. A time counted from now became such a time when the wait began.
+-- fired. There is no rule for `after_ticks`: when a wait begins, each becomes the `at_tick` that it means.
 pub data Alone (w : PlainWorld) : PlainBase → PlainValue → PlainWorld → Type 0 where
   at_any_time : (v : PlainValue) → Alone w (always v) v w
   gets : (i : ℕ) (v : PlainValue) → slice_get w.ivars i ≡ Some (Some v) → Alone w (iget i) v w
@@ -70,7 +71,8 @@ pub data Alone (w : PlainWorld) : PlainBase → PlainValue → PlainWorld → Ty
 abbrev pub Waits : PlainWorld → ℕ → PlainGroup → Type 0
 Waits w t g = slice_get w.threads t ≡ Some (pending_on g)
 
--- A thread goes on: it runs; of the nacks of its group's branches, those that fire have fired, and the others are held from now on.
+-- A thread goes on: it runs. Of the nacks of the branches in its group, those that the sequel names have fired; the others are held: they can
+-- never fire.
 abbrev pub went_on : PlainWorld → ℕ → PlainGroup → Sequel → PlainWorld
 went_on w t g s = record w { threads = slice_set w.threads t running; nacks = with_each s.fired fired (with_each (branches g) held w.nacks) }
 
