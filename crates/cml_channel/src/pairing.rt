@@ -29,7 +29,7 @@ pub struct PairedId {
     pub number: u32,
 }
 
-/// Where an offer stands that can meet another one: on an object, in one of its lanes.
+/// The place of an offer that can meet another one: an object, and one of its lanes.
 #[derive(Clone, Copy)]
 pub struct SidePlace {
     /// The object.

@@ -12,8 +12,8 @@ pub struct SwapSide {
     pub value: Value,
 }
 
-/// Swap channels, as a kind of object over which two threads meet. Any two swaps on one swap channel meet. Each can
-/// stand first; `PairedKind::partner_threads` decides that the lower thread's does.
+/// Swap channels, as a kind of object over which two threads meet. Any two swaps on one swap channel meet, and either can
+/// be the head. `PairedKind::partner_threads` decides: the head is the swap of the thread with the lower number.
 pub struct SwapChannels;
 
 impl Paired for SwapChannels {

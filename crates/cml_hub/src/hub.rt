@@ -1,5 +1,5 @@
-//! The hub: it hands out the machines of threads that are ready, takes back the slices that were run of them, chooses among the
-//! communications that are possible, and keeps the schedule of what happened.
+//! The hub. It hands out the machines of threads that are ready, and takes each back with the slice that was run of it: at most 1,000 steps
+//! of the thread. It chooses among the communications that are possible, and keeps the schedule of what happened.
 
 ghost use Rattle.std.specs.Prelude.{◌≡◌, ◌≢◌, ◌↔◌, ◌++◌, ◌+◌, ◌-◌, ◌*◌, ◌≤◌, ◌<◌, [], Some, IfOk, IfErr, IfSome, OnOk, OnErr, IsTrue, MatchOption, Ok, true, nat_le, length, slice_get};
 ghost use Rattle.std.specs.{Option.{option_copied}, Vec.{vec_len, vec_capacity}};
@@ -34,7 +34,9 @@ use std::marker::Model;
 /// beginning of the program to the world, the machines and the output that it has, and its reports show what there was to see on the way.
 #[derive(Drop)]
 pub struct Hub {
+    // the schedule, and the world, the machines and the output to which it leads
     course: Course,
+    // the threads that are ready, in their order, and what is known of each other one
     marks: ReadyQueue,
     budget: u64,
     watch: Option<u64>,
@@ -68,7 +70,7 @@ impl Model for Hub {
     }) h.marks.marks };
 }
 
-// Sets the thread's mark after its turn. A thread that began by the turn is queued first, and then this one.
+// Queues the thread after its turn, if it still runs, and notes whether it does. A thread that began by the turn is queued first.
 fn place(marks: &mut ReadyQueue, thread: Tid, gone: AfterTurn)
     requires there { thread.0 < length marks.old.marks }
     requires next { IsNext gone marks.old.marks }
@@ -204,7 +206,7 @@ impl Hub {
         self.watch
     }
 
-    /// What happened, in order. It leads to where the hub stands. Only a thread that runs there can have a slice out.
+    /// What happened, in order. It leads to where the hub stands. Each thread of which a slice is out runs in the world to which it leads.
     pub fn schedule(&self) -> &[Item]
         ensures items { result.now ≡ self.now.course.items }
         ensures leads { spec.stands (text_of self.now.course.program) self.now.course.items ≡ Some (run_of self.now.course) }
