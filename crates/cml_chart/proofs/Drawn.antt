@@ -4,7 +4,7 @@ use Rattle.std.specs.Prelude.{codes}
 use Rattle.std.specs.List.{flat_map}
 use Rattle.std.specs.Fmt.{decimal}
 use Rattle.cml_chart.specs.declared.mark.Shape.{Shape}
-use Rattle.cml_chart.specs.declared.mark.Shape.TheVariants.{Head, Spawn, Arrow, Dot, Tick, Print, Nack, End, Fault, Waits, Stuck, Runs, Event, Lost}
+use Rattle.cml_chart.specs.declared.mark.Shape.TheVariants.{Head, Spawn, Arrow, Dot, Tick, Print, Nack, End, Fault, Waits, Stuck, Runs, Lost}
 use Rattle.cml_chart.specs.Xml.{escaped_words, element}
 use Rattle.cml_chart.specs.Marks.{ChartMark, row_height}
 use Rattle.cml_chart.specs.Frames.{ChartFrame, frame_of, line_from_left, level_of, note_of}
@@ -74,53 +74,35 @@ unfolding line_text
 line-drawn Spawn f m = across-drawn (codes "spawn") _ _ _ (pieces-ascii (codes "spawn") refl)
 line-drawn Arrow f m = across-drawn (codes "arrow") _ _ _ (pieces-ascii (codes "arrow") refl)
 line-drawn Tick f m = across-drawn (codes "tick") _ _ _ (pieces-ascii (codes "tick") refl)
-line-drawn Head f m = contents-none
-line-drawn Dot f m = contents-none
-line-drawn Print f m = contents-none
-line-drawn Nack f m = contents-none
-line-drawn End f m = contents-none
-line-drawn Fault f m = contents-none
-line-drawn Waits f m = contents-none
-line-drawn Stuck f m = contents-none
-line-drawn Runs f m = contents-none
-line-drawn Event f m = contents-none
-line-drawn Lost f m = contents-none
+line-drawn s f m = contents-none
 
 arrow-drawn : (b : Bool) → Pieces (arrow_head b)
 arrow-drawn true = pieces-ascii (codes "l-9-4v8z") refl
 arrow-drawn false = pieces-ascii (codes "l9-4v8z") refl
 
 class-drawn : (s : Shape) → Pieces (sign_class s)
-class-drawn Head = pieces-ascii ([]) refl
 class-drawn Spawn = pieces-ascii (codes "life") refl
 class-drawn Arrow = pieces-ascii (codes "solid") refl
 class-drawn Dot = pieces-ascii (codes "solid") refl
-class-drawn Tick = pieces-ascii ([]) refl
-class-drawn Print = pieces-ascii ([]) refl
 class-drawn Nack = pieces-ascii (codes "solid") refl
 class-drawn End = pieces-ascii (codes "bar") refl
 class-drawn Fault = pieces-ascii (codes "bar") refl
 class-drawn Waits = pieces-ascii (codes "waits") refl
 class-drawn Stuck = pieces-ascii (codes "stuck") refl
 class-drawn Runs = pieces-ascii (codes "life") refl
-class-drawn Event = pieces-ascii ([]) refl
-class-drawn Lost = pieces-ascii ([]) refl
+class-drawn s = pieces-ascii [] refl
 
 sign_path-drawn : (s : Shape) (b : Bool) → Pieces (sign_path s b)
-sign_path-drawn Head b = pieces-ascii ([]) refl
 sign_path-drawn Spawn b = pieces-ascii (codes "m-7-4l7 4l-7 4") refl
 sign_path-drawn Arrow b = arrow-drawn b
 sign_path-drawn Dot b = pieces-ascii (codes "m-4 0a4 4 0 1 0 8 0a4 4 0 1 0-8 0z") refl
-sign_path-drawn Tick b = pieces-ascii ([]) refl
-sign_path-drawn Print b = pieces-ascii ([]) refl
 sign_path-drawn Nack b = pieces-ascii (codes "m-4-4h8l-4 8z") refl
 sign_path-drawn End b = pieces-ascii (codes "m-7 0h14") refl
 sign_path-drawn Fault b = pieces-ascii (codes "m-5-5l10 10m0-10l-10 10") refl
 sign_path-drawn Waits b = pieces-ascii (codes "m-5 0a5 5 0 1 0 10 0a5 5 0 1 0-10 0z") refl
 sign_path-drawn Stuck b = pieces-ascii (codes "m-5 0a5 5 0 1 0 10 0a5 5 0 1 0-10 0z") refl
 sign_path-drawn Runs b = pieces-ascii (codes "m-5-3l5 8l5-8") refl
-sign_path-drawn Event b = pieces-ascii ([]) refl
-sign_path-drawn Lost b = pieces-ascii ([]) refl
+sign_path-drawn s b = pieces-ascii [] refl
 
 sign-drawn : (f : ChartFrame) (m : ChartMark) → Contents (sign_text f m)
 unfolding sign_text
@@ -135,50 +117,22 @@ sign-drawn f m =
 words_class-drawn : (s : Shape) → Pieces (words_class s)
 words_class-drawn Head = pieces-ascii (codes "head") refl
 words_class-drawn Spawn = pieces-ascii (codes "head") refl
-words_class-drawn Arrow = pieces-ascii (codes "words") refl
-words_class-drawn Dot = pieces-ascii (codes "words") refl
-words_class-drawn Tick = pieces-ascii (codes "words") refl
+words_class-drawn Fault = pieces-ascii (codes "head") refl
 words_class-drawn Print = pieces-ascii (codes "print") refl
 words_class-drawn Nack = pieces-ascii (codes "print") refl
-words_class-drawn End = pieces-ascii (codes "words") refl
-words_class-drawn Fault = pieces-ascii (codes "head") refl
-words_class-drawn Waits = pieces-ascii (codes "words") refl
-words_class-drawn Stuck = pieces-ascii (codes "words") refl
 words_class-drawn Runs = pieces-ascii (codes "print") refl
-words_class-drawn Event = pieces-ascii (codes "words") refl
 words_class-drawn Lost = pieces-ascii (codes "lost") refl
+words_class-drawn s = pieces-ascii (codes "words") refl
 
 right-drawn : (s : Shape) → Pieces (words_right s)
 right-drawn Head = pieces-ascii (codes "10") refl
-right-drawn Spawn = pieces-ascii (codes "8") refl
 right-drawn Arrow = pieces-ascii (codes "10") refl
-right-drawn Dot = pieces-ascii (codes "8") refl
-right-drawn Tick = pieces-ascii (codes "8") refl
-right-drawn Print = pieces-ascii (codes "8") refl
-right-drawn Nack = pieces-ascii (codes "8") refl
-right-drawn End = pieces-ascii (codes "8") refl
-right-drawn Fault = pieces-ascii (codes "8") refl
-right-drawn Waits = pieces-ascii (codes "8") refl
-right-drawn Stuck = pieces-ascii (codes "8") refl
-right-drawn Runs = pieces-ascii (codes "8") refl
-right-drawn Event = pieces-ascii (codes "8") refl
-right-drawn Lost = pieces-ascii (codes "8") refl
+right-drawn s = pieces-ascii (codes "8") refl
 
 down-drawn : (s : Shape) → Pieces (words_down s)
 down-drawn Head = pieces-ascii (codes "-8") refl
-down-drawn Spawn = pieces-ascii (codes "4") refl
 down-drawn Arrow = pieces-ascii (codes "-6") refl
-down-drawn Dot = pieces-ascii (codes "4") refl
-down-drawn Tick = pieces-ascii (codes "4") refl
-down-drawn Print = pieces-ascii (codes "4") refl
-down-drawn Nack = pieces-ascii (codes "4") refl
-down-drawn End = pieces-ascii (codes "4") refl
-down-drawn Fault = pieces-ascii (codes "4") refl
-down-drawn Waits = pieces-ascii (codes "4") refl
-down-drawn Stuck = pieces-ascii (codes "4") refl
-down-drawn Runs = pieces-ascii (codes "4") refl
-down-drawn Event = pieces-ascii (codes "4") refl
-down-drawn Lost = pieces-ascii (codes "4") refl
+down-drawn s = pieces-ascii (codes "4") refl
 
 said-drawn : (f : ChartFrame) (m : ChartMark) → Contents (said_text f m)
 unfolding said_text
@@ -218,15 +172,7 @@ life-drawn Fault f m = life-of-drawn f m
 life-drawn Waits f m = life-of-drawn f m
 life-drawn Stuck f m = life-of-drawn f m
 life-drawn Runs f m = life-of-drawn f m
-life-drawn Head f m = contents-none
-life-drawn Spawn f m = contents-none
-life-drawn Arrow f m = contents-none
-life-drawn Dot f m = contents-none
-life-drawn Tick f m = contents-none
-life-drawn Print f m = contents-none
-life-drawn Nack f m = contents-none
-life-drawn Event f m = contents-none
-life-drawn Lost f m = contents-none
+life-drawn s f m = contents-none
 
 style-drawn : Contents style_text
 unfolding style_text

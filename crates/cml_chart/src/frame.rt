@@ -56,18 +56,7 @@ pub(crate) fn seat_of(mark: &Mark) -> u32
     match mark.shape {
         Shape::Spawn => mark.other,
         Shape::Arrow => mark.thread.min(mark.other),
-        Shape::Head
-        | Shape::Dot
-        | Shape::Tick
-        | Shape::Print
-        | Shape::Nack
-        | Shape::End
-        | Shape::Fault
-        | Shape::Waits
-        | Shape::Stuck
-        | Shape::Runs
-        | Shape::Event
-        | Shape::Lost => mark.thread,
+        _ => mark.thread,
     }
 }
 
@@ -77,19 +66,7 @@ fn seat_room(mark: &Mark) -> u16
 {
     match mark.shape {
         Shape::Tick => 0,
-        Shape::Head
-        | Shape::Spawn
-        | Shape::Arrow
-        | Shape::Dot
-        | Shape::Print
-        | Shape::Nack
-        | Shape::End
-        | Shape::Fault
-        | Shape::Waits
-        | Shape::Stuck
-        | Shape::Runs
-        | Shape::Event
-        | Shape::Lost => 18 + 7 * cells(mark.words.as_slice()),
+        _ => 18 + 7 * cells(mark.words.as_slice()),
     }
 }
 
@@ -128,19 +105,7 @@ fn push_note(alloc: Global, out: &mut Vec<u8>, mark: &Mark) -> Result<(), AllocE
             out.extend_from_slice(b" ")?;
             out.extend_from_slice(mark.words.as_slice())
         }
-        Shape::Head
-        | Shape::Spawn
-        | Shape::Arrow
-        | Shape::Dot
-        | Shape::Print
-        | Shape::Nack
-        | Shape::End
-        | Shape::Fault
-        | Shape::Waits
-        | Shape::Stuck
-        | Shape::Runs
-        | Shape::Event
-        | Shape::Lost => Ok(()),
+        _ => Ok(()),
     }
 }
 
@@ -216,18 +181,7 @@ fn begin_line(tops: &mut [u64], mark: &Mark)
     match mark.shape {
         Shape::Head => set_place(tops, mark.thread, level_of(mark)),
         Shape::Spawn => set_place(tops, mark.other, level_of(mark)),
-        Shape::Arrow
-        | Shape::Dot
-        | Shape::Tick
-        | Shape::Print
-        | Shape::Nack
-        | Shape::End
-        | Shape::Fault
-        | Shape::Waits
-        | Shape::Stuck
-        | Shape::Runs
-        | Shape::Event
-        | Shape::Lost => {}
+        _ => {}
     }
 }
 
