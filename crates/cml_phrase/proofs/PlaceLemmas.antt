@@ -48,6 +48,19 @@ counts_none false h = refl
 abbrev place_of : ℕ → ℕ → Place
 place_of line column = record { line = line; column = column }
 
+-- a byte that is no line feed stays in its line
+same_line : (text : List ℕ) (i b : ℕ) → i < length text → b ≡ get_or text i b → is_line_feed b ≡ false → line_at text i ≡ line_at text (i + 1)
+same_line text i b lt is feed = omega (arith, count_by_more_no is_line_feed text i b lt (ap is_line_feed (sym is) ∙ feed))
+
+-- and goes a column further where it begins a character
+further : (text : List ℕ) (i b : ℕ) → i < length text → b ≡ get_or text i b → is_line_feed b ≡ false → column_at text i + cond (begins_character b) 1 0 ≡ column_at text (i + 1)
+further text i b lt is feed =
+    let put : characters (last_line (take i text) ++ b ∷ [])
+    ≡ characters (line_before text i) + cond (begins_character b) 1 0 = sum_by_push
+    (λ x. cond (begins_character x) 1 0) (last_line (take i text)) b in
+    let longer : characters (line_before text (i + 1)) ≡ characters (last_line (take i text) ++ b ∷ []) = ap characters (line_longer text i b lt is (ap not feed)) in
+    omega arith
+
 step_by : (text : List ℕ) (i b : ℕ) → i < length text → b ≡ get_or text i b → (feed begins : Bool) → is_line_feed b ≡ feed → begins_character b ≡ begins →
     cond feed (place_of (line_at text i + 1) 1) (cond begins (place_of (line_at text i) (column_at text i + 1)) (place_at text i)) ≡ place_at text (i + 1)
 step_by text i b lt is true begins feed h =
@@ -55,23 +68,15 @@ step_by text i b lt is true begins feed h =
     let column : 1 ≡ column_at text (i + 1) = ap (λ l. characters l + 1) (sym (line_ended text i b lt is (ap not feed))) in
     ap (λ l. place_of l 1) line ∙ ap (λ c. place_of (line_at text (i + 1)) c) column
 step_by text i b lt is false true feed h =
-    let line : line_at text i ≡ line_at text (i + 1) = omega (arith, count_by_more_no is_line_feed text i b lt (ap is_line_feed (sym is) ∙ feed)) in
-    let put : characters (last_line (take i text) ++ b ∷ [])
-    ≡ characters (line_before text i) + cond (begins_character b) 1 0 = sum_by_push
-    (λ x. cond (begins_character x) 1 0) (last_line (take i text)) b in
+    let more = further text i b lt is feed in
     let one : ◌≡◌ {A = ℕ} (cond (begins_character b) 1 0) 1 = counts_one (begins_character b) h in
-    let longer : characters (line_before text (i + 1)) ≡ characters (last_line (take i text) ++ b ∷ []) = ap characters (line_longer text i b lt is (ap not feed)) in
     let column : column_at text i + 1 ≡ column_at text (i + 1) = omega arith in
-    ap (λ l. place_of l (column_at text i + 1)) line ∙ ap (λ c. place_of (line_at text (i + 1)) c) column
+    ap (λ l. place_of l (column_at text i + 1)) (same_line text i b lt is feed) ∙ ap (λ c. place_of (line_at text (i + 1)) c) column
 step_by text i b lt is false false feed h =
-    let line : line_at text i ≡ line_at text (i + 1) = omega (arith, count_by_more_no is_line_feed text i b lt (ap is_line_feed (sym is) ∙ feed)) in
-    let put : characters (last_line (take i text) ++ b ∷ [])
-    ≡ characters (line_before text i) + cond (begins_character b) 1 0 = sum_by_push
-    (λ x. cond (begins_character x) 1 0) (last_line (take i text)) b in
-    let none : ◌≡◌ {A = ℕ} (cond (begins_character b) 1 0) 0 = counts_none (begins_character b) h in
-    let longer : characters (line_before text (i + 1)) ≡ characters (last_line (take i text) ++ b ∷ []) = ap characters (line_longer text i b lt is (ap not feed)) in
+    let more = further text i b lt is feed in
+    let one : ◌≡◌ {A = ℕ} (cond (begins_character b) 1 0) 0 = counts_none (begins_character b) h in
     let column : column_at text i ≡ column_at text (i + 1) = omega arith in
-    ap (λ l. place_of l (column_at text i)) line ∙ ap (λ c. place_of (line_at text (i + 1)) c) column
+    ap (λ l. place_of l (column_at text i)) (same_line text i b lt is feed) ∙ ap (λ c. place_of (line_at text (i + 1)) c) column
 
 -- the place behind a byte of the text
 pub place_step : (text : List ℕ) (i b : ℕ) → i < length text → b ≡ get_or text i b → place_past (place_at text i) b ≡ place_at text (i + 1)

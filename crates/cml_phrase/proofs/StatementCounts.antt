@@ -77,27 +77,8 @@ behind_count l m (Ok at) first rest h g = behind_first l m (first at) rest (h at
 behind_count l m (Err e) first rest h g = tt
 
 behind_word : (l : List PlainSexpr) (span : Span) (first : Option Word) (found : Checked (PlainStmts Name × Scope)) → Spanned l found → Spanned l (behind_do span first found)
-behind_word l span None found h = tt
-behind_word l span (Some word.Fn) found h = tt
 behind_word l span (Some word.Do) found h = h
-behind_word l span (Some word.Let) found h = tt
-behind_word l span (Some word.Set) found h = tt
-behind_word l span (Some word.If) found h = tt
-behind_word l span (Some (word.Tested test)) found h = tt
-behind_word l span (Some word.Return) found h = tt
-behind_word l span (Some word.Call) found h = tt
-behind_word l span (Some word.Spawn) found h = tt
-behind_word l span (Some word.Choose) found h = tt
-behind_word l span (Some word.Wrap) found h = tt
-behind_word l span (Some word.Guard) found h = tt
-behind_word l span (Some word.WithNack) found h = tt
-behind_word l span (Some word.MVar) found h = tt
-behind_word l span (Some (word.Constant c)) found h = tt
-behind_word l span (Some (word.Unary o)) found h = tt
-behind_word l span (Some (word.Binary o)) found h = tt
-behind_word l span (Some (word.Act a)) found h = tt
-behind_word l span (Some (word.ActOnOne a)) found h = tt
-behind_word l span (Some (word.ActOnTwo a)) found h = tt
+behind_word l span first found h = tt
 
 -- an effect is one statement
 done : (heads : List PlainHead) (scope : Scope) (span : Span) (first : Option Word) (forms : PlainForms) →
@@ -118,47 +99,18 @@ mutual
 
   by_spanned : (heads : List PlainHead) (scope : Scope) (span : Span) (first : Option Word) (forms : PlainForms)
       → SpannedOne (inner_statements (keyword_for first) forms) (stmt_by heads scope span first forms)
-  by_spanned heads scope span (Some word.Let) no_forms = done heads scope span (Some word.Let) no_forms
-  by_spanned heads scope span (Some word.Let) (forms_and x no_forms) = done heads scope span (Some word.Let) (forms_and x no_forms)
   by_spanned heads scope span (Some word.Let) (forms_and x (forms_and r no_forms)) =
       past [] (free_name x) _ (λ name. past [] (source_in heads scope.names r) _ (λ source. refl))
-  by_spanned heads scope span (Some word.Let) (forms_and x (forms_and r (forms_and y forms))) = done heads scope span (Some word.Let) (forms_and x (forms_and r (forms_and y forms)))
-  by_spanned heads scope span (Some word.Set) no_forms = done heads scope span (Some word.Set) no_forms
-  by_spanned heads scope span (Some word.Set) (forms_and x no_forms) = done heads scope span (Some word.Set) (forms_and x no_forms)
   by_spanned heads scope span (Some word.Set) (forms_and x (forms_and p no_forms)) =
       past [] (variable_in scope.names x) _ (λ name. past [] (expr_in heads scope.names p) _ (λ e. refl))
-  by_spanned heads scope span (Some word.Set) (forms_and x (forms_and p (forms_and y forms))) = done heads scope span (Some word.Set) (forms_and x (forms_and p (forms_and y forms)))
-  by_spanned heads scope span (Some word.If) no_forms = done heads scope span (Some word.If) no_forms
-  by_spanned heads scope span (Some word.If) (forms_and p no_forms) = done heads scope span (Some word.If) (forms_and p no_forms)
-  by_spanned heads scope span (Some word.If) (forms_and p (forms_and x no_forms)) = done heads scope span (Some word.If) (forms_and p (forms_and x no_forms))
   by_spanned heads scope span (Some word.If) (forms_and p (forms_and x (forms_and y no_forms))) =
       past (block_statements x ++ block_statements y) (expr_in heads scope.names p) _
       (λ e. if_first (block_statements x) (block_statements y) e (block_in heads scope x) (λ s. block_in heads s y)
       (block_spanned heads scope x) (λ s. block_spanned heads s y))
-  by_spanned heads scope span (Some word.If) (forms_and p (forms_and x (forms_and y (forms_and z forms)))) =
-      done heads scope span (Some word.If) (forms_and p (forms_and x (forms_and y (forms_and z forms))))
-  by_spanned heads scope span (Some (word.Tested test)) no_forms = done heads scope span (Some (word.Tested test)) no_forms
   by_spanned heads scope span (Some (word.Tested test)) (forms_and p forms) =
       past (all_statements forms) (expr_in heads scope.names p) _ (λ e. tested_one (all_statements forms) test e (stmts_in heads scope forms) (stmts_spanned heads scope forms))
-  by_spanned heads scope span (Some word.Return) no_forms = done heads scope span (Some word.Return) no_forms
   by_spanned heads scope span (Some word.Return) (forms_and p no_forms) = past [] (expr_in heads scope.names p) _ (λ e. refl)
-  by_spanned heads scope span (Some word.Return) (forms_and p (forms_and y forms)) = done heads scope span (Some word.Return) (forms_and p (forms_and y forms))
-  by_spanned heads scope span None forms = done heads scope span None forms
-  by_spanned heads scope span (Some word.Fn) forms = done heads scope span (Some word.Fn) forms
-  by_spanned heads scope span (Some word.Do) forms = done heads scope span (Some word.Do) forms
-  by_spanned heads scope span (Some word.Call) forms = done heads scope span (Some word.Call) forms
-  by_spanned heads scope span (Some word.Spawn) forms = done heads scope span (Some word.Spawn) forms
-  by_spanned heads scope span (Some word.Choose) forms = done heads scope span (Some word.Choose) forms
-  by_spanned heads scope span (Some word.Wrap) forms = done heads scope span (Some word.Wrap) forms
-  by_spanned heads scope span (Some word.Guard) forms = done heads scope span (Some word.Guard) forms
-  by_spanned heads scope span (Some word.WithNack) forms = done heads scope span (Some word.WithNack) forms
-  by_spanned heads scope span (Some word.MVar) forms = done heads scope span (Some word.MVar) forms
-  by_spanned heads scope span (Some (word.Constant c)) forms = done heads scope span (Some (word.Constant c)) forms
-  by_spanned heads scope span (Some (word.Unary o)) forms = done heads scope span (Some (word.Unary o)) forms
-  by_spanned heads scope span (Some (word.Binary o)) forms = done heads scope span (Some (word.Binary o)) forms
-  by_spanned heads scope span (Some (word.Act a)) forms = done heads scope span (Some (word.Act a)) forms
-  by_spanned heads scope span (Some (word.ActOnOne a)) forms = done heads scope span (Some (word.ActOnOne a)) forms
-  by_spanned heads scope span (Some (word.ActOnTwo a)) forms = done heads scope span (Some (word.ActOnTwo a)) forms
+  by_spanned heads scope span first forms = done heads scope span first forms
 
   block_spanned : (heads : List PlainHead) (scope : Scope) (form : PlainSexpr) → Spanned (block_statements form) (block_in heads scope form)
   block_spanned heads scope (plain_name span name) = tt

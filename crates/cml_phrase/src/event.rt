@@ -1,13 +1,13 @@
 //! How base events are spoken of.
 ghost use Rattle.std.specs.{Prelude.{◌≡◌, ◌++◌, ◌-◌, ◌∷◌, [], OnOk, map, length, take}, Option.{option_map}, List.{flat_map}, Fmt.{decimal}};
-ghost use Rattle.cml_phrase.specs.{Phrases.{value_words}, Views.{plain_who, plain_told}};
+ghost use Rattle.cml_phrase.specs.Views.{plain_who, plain_told};
 ghost use Rattle.cml_phrase.specs.Events as spec;
 ghost use Rattle.cml_value.specs.Value.{join};
 
 use crate::thread::{Who, push_thread};
-use crate::value::push_value;
+use crate::value::{push_giving, push_numbered};
 use cml_text::Sexpr;
-use cml_value::{Base, BaseKind, Tid, Value};
+use cml_value::{Base, BaseKind, Tid};
 use std::alloc::{AllocError, Global};
 
 // How many base events are said of those that a thread waits for.
@@ -61,15 +61,12 @@ pub fn push_event(
 ) -> Result<(), AllocError>
     ensures { OnOk result (out.new.items ≡ out.old.items ++ spec.event_words forms.now (plain_told told.entry)) }
 {
-    push_base(alloc, out, forms, told.who, told.base)?;
-    push_state(alloc, out, told.state)?;
-    push_taken(alloc, out, forms, told.who, told.base)
+    let speaker = Speaker { alloc, forms };
+    speaker.push_told(out, told)
 }
 
 /// Appends the base events that a thread waits for, of which there are `count`: the first 6, and how many more there are. Only the
 /// first 6 need to be given.
-///
-/// # Errors
 /// Out of memory.
 pub fn push_events(
     alloc: Global,
@@ -81,72 +78,17 @@ pub fn push_events(
     ensures { OnOk result (out.new.items ≡ out.old.items
         ++ spec.events_words forms.now (map plain_told told.now) count) }
 {
+    let speaker = Speaker { alloc, forms };
     let said = first_of(told);
-    push_of(alloc, out, forms, said, count)?;
+    speaker.push_of(out, said, count)?;
     Ok(())
-}
-
-// Appends these, and how many more there are of that many in all.
-fn push_of(
-    alloc: Global,
-    out: &mut Vec<u8>,
-    forms: &[Sexpr],
-    told: &[Told<'_>],
-    count: usize,
-) -> Result<(), AllocError>
-    ensures { let all = map plain_told told.now in
-        OnOk result (out.new.items ≡ out.old.items
-        ++ (spec.said_words forms.now all ++ spec.more_words (count - length all))) }
-{
-    push_said(alloc, out, forms, told)?;
-    push_more(alloc, out, count.saturating_sub(told.len()))
 }
 
 // Those that are said.
 fn first_of<'a, 'b>(told: &'b [Told<'a>]) -> &'b [Told<'a>]
     ensures { result.now ≡ take spec.event_limit told.now }
 {
-    if told.len() > EVENT_LIMIT {
-        &told[..EVENT_LIMIT]
-    } else {
-        told
-    }
-}
-
-// Appends these, with a word between two.
-fn push_said(
-    alloc: Global,
-    out: &mut Vec<u8>,
-    forms: &[Sexpr],
-    told: &[Told<'_>],
-) -> Result<(), AllocError>
-    ensures { OnOk result (out.new.items ≡ out.old.items
-        ++ spec.said_words forms.now (map plain_told told.now)) }
-{
-    match told {
-        [] => out.extend_from_slice(b"nothing: it never happens"),
-        [first, more @ ..] => {
-            push_event(alloc, out, forms, *first)?;
-            push_others(alloc, out, forms, more)
-        }
-    }
-}
-
-// Appends these, with a word before each.
-fn push_others(
-    alloc: Global,
-    out: &mut Vec<u8>,
-    forms: &[Sexpr],
-    told: &[Told<'_>],
-) -> Result<(), AllocError>
-    ensures { OnOk result (out.new.items ≡ out.old.items
-        ++ flat_map (spec.or_event forms.now) (map plain_told told.now)) }
-{
-    for one in told {
-        out.extend_from_slice(b", or ")?;
-        push_event(alloc, out, forms, *one)?;
-    }
-    Ok(())
+    &told[..told.len().min(EVENT_LIMIT)]
 }
 
 // Appends how many more there are.
@@ -158,87 +100,6 @@ fn push_more(alloc: Global, out: &mut Vec<u8>, count: usize) -> Result<(), Alloc
     }
     let text = format!(in alloc; ", and {count} more")?;
     out.extend_from_slice(text.as_bytes())
-}
-
-// Appends what a base event does, and with which object.
-fn push_base(
-    alloc: Global,
-    out: &mut Vec<u8>,
-    forms: &[Sexpr],
-    who: Option<Who<'_>>,
-    base: &Base,
-) -> Result<(), AllocError>
-    ensures { OnOk result (out.new.items ≡ out.old.items
-        ++ spec.base_words forms.now (option_map plain_who who.entry) base.now) }
-{
-    match base.kind() {
-        BaseKind::Always(_) => out.extend_from_slice(b"nothing: it is always ready"),
-        BaseKind::Send(c, v) => push_giving(alloc, out, b"send ", v, b" on channel ", c.0),
-        BaseKind::Recv(c) => push_numbered(alloc, out, b"receive on channel ", u64::from(c.0)),
-        BaseKind::Swap(s, v) => push_giving(alloc, out, b"swap ", v, b" on swap channel ", s.0),
-        BaseKind::IGet(i) => push_numbered(alloc, out, b"read I-variable ", u64::from(i.0)),
-        BaseKind::MTake(m) => push_numbered(alloc, out, b"take M-variable ", u64::from(m.0)),
-        BaseKind::MGet(m) => push_numbered(alloc, out, b"read M-variable ", u64::from(m.0)),
-        BaseKind::MSwap(m, v) => push_giving(alloc, out, b"swap ", v, b" into M-variable ", m.0),
-        BaseKind::MailRecv(b) => {
-            push_numbered(alloc, out, b"receive from mailbox ", u64::from(b.0))
-        }
-        BaseKind::PortRecv(p) => push_numbered(alloc, out, b"receive from port ", u64::from(p.0)),
-        BaseKind::Join(t) => push_joined(alloc, out, forms, who, *t),
-        BaseKind::At(tick) => push_numbered(alloc, out, b"tick ", *tick),
-        BaseKind::After(delay) => push_numbered(alloc, out, b"after ", *delay),
-        BaseKind::Nack(k) => push_numbered(alloc, out, b"nack ", u64::from(k.0)),
-    }
-}
-
-// Appends words and a number.
-fn push_numbered(
-    alloc: Global,
-    out: &mut Vec<u8>,
-    words: &[u8],
-    number: u64,
-) -> Result<(), AllocError>
-    ensures { OnOk result (out.new.items ≡ out.old.items ++ (words.now ++ decimal number)) }
-{
-    out.extend_from_slice(words)?;
-    let digits = format!(in alloc; "{number}")?;
-    out.extend_from_slice(digits.as_bytes())
-}
-
-// Appends what is done with a value and an object.
-fn push_giving(
-    alloc: Global,
-    out: &mut Vec<u8>,
-    words: &[u8],
-    value: &Value,
-    object: &[u8],
-    number: u32,
-) -> Result<(), AllocError>
-    ensures { OnOk result (out.new.items ≡ out.old.items
-        ++ (words.now ++ (value_words value.now ++ (object.now ++ decimal number)))) }
-{
-    out.extend_from_slice(words)?;
-    push_value(alloc, out, value)?;
-    push_numbered(alloc, out, object, u64::from(number))
-}
-
-// Appends the end of a thread.
-fn push_joined(
-    alloc: Global,
-    out: &mut Vec<u8>,
-    forms: &[Sexpr],
-    who: Option<Who<'_>>,
-    thread: Tid,
-) -> Result<(), AllocError>
-    ensures { OnOk result (out.new.items ≡ out.old.items
-        ++ spec.base_words forms.now (option_map plain_who who.entry) (join thread.0)) }
-{
-    let began = match who {
-        Some(w) => w.began,
-        None => None,
-    };
-    out.extend_from_slice(b"the end of ")?;
-    push_thread(alloc, out, forms, Who { thread, began })
 }
 
 // Appends the state of what is waited for.
@@ -271,50 +132,134 @@ fn push_holds(alloc: Global, out: &mut Vec<u8>, count: usize) -> Result<(), Allo
     out.extend_from_slice(text.as_bytes())
 }
 
-// Appends who took an M-variable last.
-fn push_taken(
+// What speaks of the events of a program.
+#[derive(Clone, Copy)]
+struct Speaker<'a> {
     alloc: Global,
-    out: &mut Vec<u8>,
-    forms: &[Sexpr],
-    who: Option<Who<'_>>,
-    base: &Base,
-) -> Result<(), AllocError>
-    ensures { OnOk result (out.new.items ≡ out.old.items
-        ++ spec.taken_words forms.now (option_map plain_who who.entry) base.now) }
-{
-    match base.kind() {
-        BaseKind::MTake(_) | BaseKind::MGet(_) | BaseKind::MSwap(_, _) => {
-            push_last(alloc, out, forms, who)
-        }
-        BaseKind::Always(_)
-        | BaseKind::Send(_, _)
-        | BaseKind::Recv(_)
-        | BaseKind::Swap(_, _)
-        | BaseKind::IGet(_)
-        | BaseKind::MailRecv(_)
-        | BaseKind::PortRecv(_)
-        | BaseKind::Join(_)
-        | BaseKind::At(_)
-        | BaseKind::After(_)
-        | BaseKind::Nack(_) => Ok(()),
-    }
+    forms: &'a [Sexpr],
 }
 
-// Appends the thread that took it, if one did.
-fn push_last(
-    alloc: Global,
-    out: &mut Vec<u8>,
-    forms: &[Sexpr],
-    who: Option<Who<'_>>,
-) -> Result<(), AllocError>
-    ensures { OnOk result (out.new.items ≡ out.old.items
-        ++ spec.last_words forms.now (option_map plain_who who.entry)) }
-{
-    match who {
-        None => Ok(()),
-        Some(w) => {
-            out.extend_from_slice(b"; last taken by ")?;
-            push_thread(alloc, out, forms, w)
+impl Speaker<'_> {
+    // Appends a base event in words.
+    fn push_told(&self, out: &mut Vec<u8>, told: Told<'_>) -> Result<(), AllocError>
+        ensures { OnOk result (out.new.items ≡ out.old.items ++ spec.event_words self.now.forms.now (plain_told told.entry)) }
+    {
+        self.push_base(out, told)?;
+        push_state(self.alloc, out, told.state)?;
+        self.push_taken(out, told)
+    }
+
+    // Appends these, and how many more there are of that many in all.
+    fn push_of(&self, out: &mut Vec<u8>, told: &[Told<'_>], count: usize) -> Result<(), AllocError>
+        ensures { let all = map plain_told told.now in
+            OnOk result (out.new.items ≡ out.old.items
+            ++ (spec.said_words self.now.forms.now all ++ spec.more_words (count - length all))) }
+    {
+        self.push_said(out, told)?;
+        push_more(self.alloc, out, count.saturating_sub(told.len()))
+    }
+
+    // Appends these, with a word between two.
+    fn push_said(&self, out: &mut Vec<u8>, told: &[Told<'_>]) -> Result<(), AllocError>
+        ensures { OnOk result (out.new.items ≡ out.old.items
+            ++ spec.said_words self.now.forms.now (map plain_told told.now)) }
+    {
+        match told {
+            [] => out.extend_from_slice(b"nothing: it never happens"),
+            [first, more @ ..] => {
+                self.push_told(out, *first)?;
+                self.push_others(out, more)
+            }
+        }
+    }
+
+    // Appends these, with a word before each.
+    fn push_others(&self, out: &mut Vec<u8>, told: &[Told<'_>]) -> Result<(), AllocError>
+        ensures { OnOk result (out.new.items ≡ out.old.items
+            ++ flat_map (spec.or_event self.now.forms.now) (map plain_told told.now)) }
+    {
+        for one in told {
+            out.extend_from_slice(b", or ")?;
+            self.push_told(out, *one)?;
+        }
+        Ok(())
+    }
+
+    // Appends words, and the number of an object.
+    fn push_object(&self, out: &mut Vec<u8>, words: &[u8], number: u32) -> Result<(), AllocError>
+        ensures { OnOk result (out.new.items ≡ out.old.items ++ (words.now ++ decimal number)) }
+    {
+        push_numbered(self.alloc, out, words, u64::from(number))
+    }
+
+    // Appends what a base event does, and with which object.
+    fn push_base(&self, out: &mut Vec<u8>, told: Told<'_>) -> Result<(), AllocError>
+        ensures { let said = plain_told told.entry in OnOk result (out.new.items ≡ out.old.items
+            ++ spec.base_words self.now.forms.now said.who said.base) }
+    {
+        let alloc = self.alloc;
+        match told.base.kind() {
+            BaseKind::Always(_) => out.extend_from_slice(b"nothing: it is always ready"),
+            BaseKind::Send(c, v) => push_giving(alloc, out, b"send ", v, b" on channel ", c.0),
+            BaseKind::Recv(c) => self.push_object(out, b"receive on channel ", c.0),
+            BaseKind::Swap(s, v) => push_giving(alloc, out, b"swap ", v, b" on swap channel ", s.0),
+            BaseKind::IGet(i) => self.push_object(out, b"read I-variable ", i.0),
+            BaseKind::MTake(m) => self.push_object(out, b"take M-variable ", m.0),
+            BaseKind::MGet(m) => self.push_object(out, b"read M-variable ", m.0),
+            BaseKind::MSwap(m, v) => {
+                push_giving(alloc, out, b"swap ", v, b" into M-variable ", m.0)
+            }
+            BaseKind::MailRecv(b) => self.push_object(out, b"receive from mailbox ", b.0),
+            BaseKind::PortRecv(p) => self.push_object(out, b"receive from port ", p.0),
+            BaseKind::Join(t) => self.push_joined(out, told.who, *t),
+            BaseKind::At(tick) => push_numbered(alloc, out, b"tick ", *tick),
+            BaseKind::After(delay) => push_numbered(alloc, out, b"after ", *delay),
+            BaseKind::Nack(k) => self.push_object(out, b"nack ", k.0),
+        }
+    }
+
+    // Appends the end of a thread.
+    fn push_joined(
+        &self,
+        out: &mut Vec<u8>,
+        who: Option<Who<'_>>,
+        thread: Tid,
+    ) -> Result<(), AllocError>
+        ensures { OnOk result (out.new.items ≡ out.old.items
+            ++ spec.base_words self.now.forms.now (option_map plain_who who.entry) (join thread.0)) }
+    {
+        let began = match who {
+            Some(w) => w.began,
+            None => None,
+        };
+        out.extend_from_slice(b"the end of ")?;
+        push_thread(self.alloc, out, self.forms, Who { thread, began })
+    }
+
+    // Appends who took an M-variable last.
+    fn push_taken(&self, out: &mut Vec<u8>, told: Told<'_>) -> Result<(), AllocError>
+        ensures { let said = plain_told told.entry in OnOk result (out.new.items ≡ out.old.items
+            ++ spec.taken_words self.now.forms.now said.who said.base) }
+    {
+        match told.base.kind() {
+            BaseKind::MTake(_) | BaseKind::MGet(_) | BaseKind::MSwap(_, _) => {
+                self.push_last(out, told.who)
+            }
+            _ => Ok(()),
+        }
+    }
+
+    // Appends the thread that took it, if one did.
+    fn push_last(&self, out: &mut Vec<u8>, who: Option<Who<'_>>) -> Result<(), AllocError>
+        ensures { OnOk result (out.new.items ≡ out.old.items
+            ++ spec.last_words self.now.forms.now (option_map plain_who who.entry)) }
+    {
+        match who {
+            None => Ok(()),
+            Some(w) => {
+                out.extend_from_slice(b"; last taken by ")?;
+                push_thread(self.alloc, out, self.forms, w)
+            }
         }
     }
 }

@@ -15,4 +15,4 @@ pub use name::{function_name, slot_names};
 pub use place::{Place, push_line, push_place, statement_place, statement_places};
 pub use statement::statement_spans;
 pub use thread::{Who, push_began, push_thread};
-pub use value::{push_value, push_variable};
+pub use value::{push_giving, push_numbered, push_value, push_variable};

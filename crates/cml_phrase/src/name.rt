@@ -119,9 +119,7 @@ fn push_let_by<'a>(
 {
     match keyword {
         Keyword::Let => push_variable(names, behind),
-        Keyword::If => Ok(()),
-        Keyword::Tested => Ok(()),
-        Keyword::Other => Ok(()),
+        _ => Ok(()),
     }
 }
 

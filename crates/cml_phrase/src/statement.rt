@@ -62,8 +62,7 @@ fn add_inner<'a>(
     match keyword {
         Keyword::If => add_branches(found, behind),
         Keyword::Tested => add_body(found, behind),
-        Keyword::Let => Ok(()),
-        Keyword::Other => Ok(()),
+        _ => Ok(()),
     }
 }
 

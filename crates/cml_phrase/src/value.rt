@@ -1,5 +1,5 @@
 //! How values are spoken of.
-ghost use Rattle.std.specs.{Prelude.{◌≡◌, ◌++◌, ◌∷◌, [], IfOk, OnOk}, List.{flat_map}, String.{string_bytes}};
+ghost use Rattle.std.specs.{Prelude.{◌≡◌, ◌++◌, ◌∷◌, [], IfOk, OnOk}, List.{flat_map}, String.{string_bytes}, Fmt.{decimal}};
 ghost use Rattle.cml_value.specs.Show.{shown};
 ghost use Rattle.cml_phrase.specs.Phrases as spec;
 
@@ -36,6 +36,43 @@ pub fn push_variable(
     out.extend_from_slice(name.as_bytes())?;
     out.extend_from_slice(b" = ")?;
     push_value(alloc, out, value)
+}
+
+/// Appends words and a number: `receive on channel 2`.
+///
+/// # Errors
+/// Out of memory.
+pub fn push_numbered(
+    alloc: Global,
+    out: &mut Vec<u8>,
+    words: &[u8],
+    number: u64,
+) -> Result<(), AllocError>
+    ensures { OnOk result (out.new.items ≡ out.old.items ++ (words.now ++ decimal number)) }
+{
+    out.extend_from_slice(words)?;
+    let digits = format!(in alloc; "{number}")?;
+    out.extend_from_slice(digits.as_bytes())
+}
+
+/// Appends words, a value, words and a number: `send 7 on channel 2`.
+///
+/// # Errors
+/// Out of memory.
+pub fn push_giving(
+    alloc: Global,
+    out: &mut Vec<u8>,
+    words: &[u8],
+    value: &Value,
+    object: &[u8],
+    number: u32,
+) -> Result<(), AllocError>
+    ensures { OnOk result (out.new.items ≡ out.old.items
+        ++ (words.now ++ (spec.value_words value.now ++ (object.now ++ decimal number)))) }
+{
+    out.extend_from_slice(words)?;
+    push_value(alloc, out, value)?;
+    push_numbered(alloc, out, object, u64::from(number))
 }
 
 /// Appends what a function is given, in parentheses; nothing where it is given nothing.
