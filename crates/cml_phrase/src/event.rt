@@ -67,6 +67,8 @@ pub fn push_event(
 
 /// Appends the base events that a thread waits for, of which there are `count`: the first 6, and how many more there are. Only the
 /// first 6 need to be given.
+///
+/// # Errors
 /// Out of memory.
 pub fn push_events(
     alloc: Global,
