@@ -1,17 +1,17 @@
 -- The whole text, by its parts; and that it does not matter who took from M-variables for which nobody waits.
-use Rattle.std.proofs.Common.{◌≡◌, ◌≢◌, ℕ, suc, ◌+◌, ◌<◌, Bool, true, false, List, [], ◌∷◌, ◌++◌, map, length, Option, Some, None, refl, sym, ap, ◌∙◌, arith, append-nil, ◌⊎◌, inl, inr}
-use Rattle.std.specs.Prelude.{◌||◌, ◌==◌, if◌then◌else◌, option_map, count_by, Result, Ok, Err, OnOk}
+use Rattle.std.proofs.Common.{◌≡◌, ℕ, suc, ◌+◌, Bool, true, false, List, [], ◌∷◌, ◌++◌, map, length, Option, refl, sym, ap, ◌∙◌, append-nil, ◌⊎◌, inl, inr}
+use Rattle.std.specs.Prelude.{◌||◌, ◌==◌, if◌then◌else◌, option_map, Result, Ok, Err, OnOk}
 use Rattle.std.specs.Prelude.{Vec}
 use Rattle.std.specs.declared.alloc.Global.{Global}
 use Rattle.std.specs.List.{list_any}
 use Rattle.cml_text.specs.Forms.{PlainSexpr}
 use Rattle.cml_value.specs.Value.{PlainFunction, PlainBase, always, send, recv, swap, iget, mtake, mget, mswap, mail_recv, port_recv, join, at_tick, after_ticks, nack}
-use Rattle.cml_value.specs.Group.{PlainGroup, bases, leaf_count}
+use Rattle.cml_value.specs.Group.{bases, leaf_count}
 use Rattle.cml_scan.specs.World.{PlainThread, running, pending_on, ended, PlainWorld, pending}
-use Rattle.cml_phrase.specs.Events.{PlainSaid, events_words}
-use Rattle.cml_ending.specs.Waits.{thread_behind, who_is, object_state, base_told, awaited_words, is_on_mvar, waits_on_mvar}
+use Rattle.cml_phrase.specs.Events.{events_words}
+use Rattle.cml_ending.specs.Waits.{thread_behind, who_is, object_state, base_told, is_on_mvar, waits_on_mvar}
 use Rattle.cml_ending.specs.Rings.{behind_only, next_thread, next_threads, ring_among, ring_line}
-use Rattle.cml_ending.specs.Lines.{Scene, standing_words, in_words, waiting_line, running_line, thread_line, thread_lines}
+use Rattle.cml_ending.specs.Lines.{Scene, standing_words, in_words, thread_line, thread_lines}
 use Rattle.cml_ending.specs.Standings.{spot_at}
 use Rattle.cml_step.specs.Calls.{text_of}
 use Rattle.cml_schedule.specs.declared.item.Item.{Item}
@@ -27,23 +27,20 @@ use Rattle.cml_ending.specs.Takes.{takes_of, last_taker}
 use Rattle.cml_ending.specs.Lines.{turn_counts}
 use Rattle.cml_ending.specs.Heads.{opening_line}
 use Rattle.cml_ending.specs.Ends.{scene_of, run_count, left_lines, left_text, faults_line, end_text}
+use Rattle.cml_ending.proofs.OrLemmas.{or_false}
 use Rattle.cml_ending.proofs.AppendLemmas.{appended_two}
 
 -- the two know the same takers, or it does not matter
 abbrev pub SameWhere : (ℕ → Option ℕ) → (ℕ → Option ℕ) → Bool → Type 0
 SameWhere f g asked = ((m : ℕ) → f m ≡ g m) ⊎ (asked ≡ false)
 
-neither : (a b : Bool) → (a || b) ≡ false → (a ≡ false) × (b ≡ false)
-neither true b h = cc
-neither false b h = (refl, h)
-
 same_first : (f g : ℕ → Option ℕ) (a b : Bool) → SameWhere f g (a || b) → SameWhere f g a
 same_first f g a b (inl h) = inl h
-same_first f g a b (inr h) = inr (neither a b h).0
+same_first f g a b (inr h) = inr (or_false a b h).0
 
 same_rest : (f g : ℕ → Option ℕ) (a b : Bool) → SameWhere f g (a || b) → SameWhere f g b
 same_rest f g a b (inl h) = inl h
-same_rest f g a b (inr h) = inr (neither a b h).1
+same_rest f g a b (inr h) = inr (or_false a b h).1
 
 same_taker : (f g : ℕ → Option ℕ) (m : ℕ) → SameWhere f g true → f m ≡ g m
 same_taker f g m (inl h) = h m

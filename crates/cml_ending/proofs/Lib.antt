@@ -1,10 +1,13 @@
+pub mod OrLemmas
 pub mod AppendLemmas
 pub mod WordLemmas
 pub mod RingLemmas
 pub mod StandingLemmas
 pub mod TakeLemmas
 pub mod ReplayLemmas
+pub mod AgainLemmas
 pub mod WaitLemmas
+pub mod ThreadLemmas
 pub mod LineLemmas
 pub mod StuckLemmas
 pub mod EndLemmas

@@ -1,5 +1,5 @@
--- What comes of an item that is allowed; and whether a thread waits for an M-variable, one after another.
-use Rattle.std.proofs.Common.{◌≡◌, ℕ, ◌+◌, ◌<◌, ◌≤◌, Bool, true, false, List, [], ◌∷◌, ◌++◌, length, get_or, take, Option, Some, None, refl, sym, ap, ◌∙◌, add-zero}
+-- The next item of a schedule; and whether a thread waits for an M-variable, one after another.
+use Rattle.std.proofs.Common.{◌≡◌, ℕ, ◌+◌, ◌<◌, ◌≤◌, Bool, true, false, List, [], ◌∷◌, ◌++◌, length, get_or, take, Some, sym, ap, ◌∙◌, add-zero}
 use Rattle.std.specs.Prelude.{slice_get, ◌||◌, if◌then◌else◌, count_by}
 use Rattle.std.specs.Option.{option_map_or}
 use Rattle.std.proofs.lemmas.List.Sums.{count_by_more_yes, count_by_more_no}
@@ -9,24 +9,12 @@ use Rattle.std.proofs.lemmas.List.Folds.{list_any_more, list_any_at}
 use Rattle.std.proofs.lemmas.Option.{slice_get-get_or}
 use Rattle.cml_scan.specs.World.{PlainThread, running}
 use Rattle.cml_book.specs.Walks.{runs}
-use Rattle.cml_step.specs.Terms.{Program}
 use Rattle.cml_step.specs.Calls.{text_of}
 use Rattle.cml_schedule.specs.declared.item.Item.{Item}
 use Rattle.cml_hub.specs.Runs.{is_allowed, stands}
-use Rattle.cml_hub.specs.Courses.{PlainCourse, run_of, Adds, Comes}
-use Rattle.cml_ending.specs.declared.takers.Takers.{Takers}
-use Rattle.cml_ending.specs.Takes.{takes_of, last_taker, KnowsTakers}
+use Rattle.cml_hub.specs.Courses.{PlainCourse, run_of}
 use Rattle.cml_ending.specs.Waits.{waits_on_mvar}
 use Rattle.cml_ending.proofs.TakeLemmas.{is_next_allowed}
-
--- an item that is allowed comes
-pub does_come : (old new : PlainCourse) (item : Item) (came : Bool) → is_allowed old.world item ≡ true → Comes old item came new → came ≡ false → ⊥
-does_come old new item true allowed comes not_so = cc
-does_come old new item false allowed comes not_so = let refused = comes.0 in cc
-
-pub has_come : (old new : PlainCourse) (item : Item) (came : Bool) → came ≡ true → Comes old item came new → Adds old item new
-has_come old new item true so comes = comes
-has_come old new item false so comes = cc
 
 -- the next item of a schedule is allowed where the ones before it have led
 pub next_allowed : (items : List Item) (c : PlainCourse) (now : PlainCourse) (i : ℕ) (item : Item) → i < length items → item ≡ get_or items i item
@@ -40,22 +28,9 @@ next_allowed items c now i item h is same whole program so_far leads =
 pub item_at : (items : List Item) (i : ℕ) (d : Item) → i < length items → get_or items i d ≡ get_or items i (get_or items i d)
 item_at items i d h = get_or_default items i d (get_or items i d) h
 
--- all items
-pub knows_all : (p : Program) (xs items : List Item) (i : ℕ) (takers : Takers) → items ≡ xs → length items ≤ i → KnowsTakers p (take i items) takers → KnowsTakers p xs takers
-knows_all p xs items i takers same past knows m = knows m ∙ ap (λ zs. last_taker (takes_of p zs) m) (take_all i items past ∙ same)
-
 -- one item more
 pub taken_more : (items : List Item) (i : ℕ) (item : Item) → i < length items → item ≡ get_or items i item → take i items ++ item ∷ [] ≡ take (i + 1) items
 taken_more items i item h is = ap (λ x. take i items ++ x ∷ []) is ∙ sym (take_more items i item h)
-
-pub knows_more : (p q : Program) (xs items : List Item) (item : Item) (i : ℕ) (old new : Takers) → p ≡ q → xs ≡ take i items → take i items ++ item ∷ [] ≡ take (i + 1) items
-    → (KnowsTakers p xs old → KnowsTakers p (xs ++ item ∷ []) new) → KnowsTakers q (take i items) old → KnowsTakers q (take (i + 1) items) new
-knows_more p q xs items item i old new pe xe te step knows m =
-    let before : KnowsTakers p xs old =
-    λ (k : ℕ). knows k ∙ (ap (λ zs. last_taker (takes_of q zs) k) (sym xe) ∙ ap (λ x. last_taker (takes_of x xs) k) (sym pe)) in
-    step before m
-    ∙ (ap (λ x. last_taker (takes_of x (xs ++ item ∷ [])) m) pe
-    ∙ (ap (λ zs. last_taker (takes_of q (zs ++ item ∷ [])) m) xe ∙ ap (λ zs. last_taker (takes_of q zs) m) te))
 
 -- one thread more
 is_of : (threads : List PlainThread) (i : ℕ) (b : Bool) → i < length threads → ((t : PlainThread) → slice_get threads i ≡ Some t → b ≡ waits_on_mvar t)

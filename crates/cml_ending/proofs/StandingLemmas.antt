@@ -1,5 +1,5 @@
 -- The top call of a stack, as a walk from the top finds it.
-use Rattle.std.proofs.Common.{◌≡◌, ℕ, ◌+◌, ◌<◌, ◌≤◌, subst, inl, inr, List, [], ◌∷◌, ◌++◌, length, Option, Some, None, refl, sym, ap, ◌∙◌, arith}
+use Rattle.std.proofs.Common.{◌≡◌, ℕ, ◌+◌, ◌<◌, subst, inl, inr, List, [], ◌∷◌, ◌++◌, length, Option, Some, None, sym, ap, ◌∙◌, arith}
 use Rattle.std.specs.Option.{option_or}
 use Rattle.std.specs.Prelude.{option_and_then, slice_get}
 use Rattle.std.proofs.lemmas.Bool.{cases_lt}
@@ -8,14 +8,7 @@ use Rattle.cml_step.specs.Machines.{PlainHeld}
 use Rattle.cml_hub.specs.Courses.{PlainCourse}
 use Rattle.cml_ending.specs.declared.standing.Spot.{Spot}
 use Rattle.cml_ending.specs.Standings.{as_call, top_call, IsSpotOf, spot_at, call_of_machine}
-
-or_none : (x : Option PlainHeld) → x ≡ option_or x None
-or_none None = refl
-or_none (Some h) = refl
-
-or_or : (x y z : Option PlainHeld) → option_or (option_or x y) z ≡ option_or x (option_or y z)
-or_or None y z = refl
-or_or (Some h) y z = refl
+use Rattle.cml_ending.proofs.OrLemmas.{or_none, or_or}
 
 -- the last entry is looked at first
 pub top_call-push : (hs : List PlainHeld) (h : PlainHeld) → top_call (hs ++ h ∷ []) ≡ option_or (as_call h) (top_call hs)

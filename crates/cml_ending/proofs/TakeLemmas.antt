@@ -1,5 +1,5 @@
 -- What a schedule takes from M-variables, one item after another.
-use Rattle.std.proofs.Common.{◌≡◌, ℕ, ◌+◌, ◌<◌, ◌≤◌, Bool, true, false, List, [], ◌∷◌, ◌++◌, length, get_or, take, drop, Option, Some, None, refl, sym, ap, ◌∙◌, arith, append_assoc, append-nil}
+use Rattle.std.proofs.Common.{◌≡◌, ℕ, ◌+◌, ◌<◌, Bool, true, false, List, [], ◌∷◌, ◌++◌, length, get_or, take, drop, Option, Some, None, refl, sym, ap, ◌∙◌, append_assoc, append-nil}
 use Rattle.std.specs.Prelude.{if◌then◌else◌, option_and_then}
 use Rattle.std.specs.Option.{option_or, option_to_list}
 use Rattle.std.proofs.lemmas.List.{take-append-drop, drop_more}
@@ -9,14 +9,7 @@ use Rattle.cml_hub.specs.Runs.{Run, opening, advance, after_item, is_allowed, st
 use Rattle.cml_ending.specs.declared.takers.Take.{Take}
 use Rattle.cml_ending.specs.declared.takers.Takers.{Takers}
 use Rattle.cml_ending.specs.Takes.{take_by, takes_from, takes_of, taker_if, last_taker, taker_in, KnowsTakers}
-
-or_none : (x : Option ℕ) → x ≡ option_or x None
-or_none None = refl
-or_none (Some n) = refl
-
-or_or : (x y z : Option ℕ) → option_or (option_or x y) z ≡ option_or x (option_or y z)
-or_or None y z = refl
-or_or (Some n) y z = refl
+use Rattle.cml_ending.proofs.OrLemmas.{or_none, or_or}
 
 -- one take more
 pub last_taker-push : (takes : List Take) (take : Take) (m : ℕ) → last_taker (takes ++ take ∷ []) m ≡ option_or (taker_if m take) (last_taker takes m)

@@ -1,5 +1,5 @@
 -- What is said of the base events of a group, and of threads one after another.
-use Rattle.std.proofs.Common.{◌≡◌, ◌≢◌, ℕ, zero, suc, ◌+◌, ◌-◌, ◌<◌, ◌≤◌, Bool, true, false, List, [], ◌∷◌, ◌++◌, length, get_or, take, map, Option, Some, None, refl, sym, ap, ◌∙◌, arith}
+use Rattle.std.proofs.Common.{◌≡◌, ◌≢◌, ℕ, ◌+◌, ◌-◌, ◌<◌, List, [], ◌∷◌, ◌++◌, length, get_or, take, map, Option, Some, None, refl, sym, ap, ◌∙◌, arith}
 use Rattle.std.specs.Prelude.{slice_get, Result, Ok, Err, OnOk}
 use Rattle.std.proofs.lemmas.List.{take-map, take-take, length-map, take_more, map_push}
 use Rattle.std.proofs.lemmas.Option.{slice_get-get_or}

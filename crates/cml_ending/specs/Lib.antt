@@ -1,3 +1,4 @@
+pub mod Again
 pub mod Takes
 pub mod Waits
 pub mod Rings

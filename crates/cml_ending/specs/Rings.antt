@@ -4,7 +4,7 @@ use Rattle.std.specs.List.{flat_map}
 use Rattle.std.specs.Option.{option_or}
 use Rattle.std.specs.Fmt.{decimal}
 use Rattle.cml_value.specs.Value.{PlainBase}
-use Rattle.cml_value.specs.Group.{PlainGroup, bases}
+use Rattle.cml_value.specs.Group.{bases}
 use Rattle.cml_scan.specs.World.{PlainThread}
 use Rattle.cml_book.specs.Threads.{flat_of}
 use Rattle.cml_ending.specs.Waits.{thread_behind}

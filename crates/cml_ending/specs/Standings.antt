@@ -6,7 +6,7 @@ use Rattle.cml_check.specs.Syntax.{PlainItem}
 use Rattle.cml_step.specs.declared.call.Wait.{Wait}
 use Rattle.cml_step.specs.declared.call.Wait.TheVariants as wait
 use Rattle.cml_step.specs.Calls.{placed_in}
-use Rattle.cml_step.specs.Machines.{PlainHeld, call, force, wraps, PlainMachine}
+use Rattle.cml_step.specs.Machines.{PlainHeld, call, PlainMachine}
 use Rattle.cml_step.specs.Standing.{StandsIn}
 use Rattle.cml_hub.specs.Courses.{PlainCourse}
 use Rattle.cml_ending.specs.declared.standing.Spot.{Spot}

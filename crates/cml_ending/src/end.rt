@@ -6,7 +6,7 @@ ghost use Rattle.cml_ending.specs.{Views.{plain_stage}, Ends.{EndsSo}};
 ghost use Rattle.cml_ending.specs.Ends as spec;
 
 use crate::head::push_head;
-use crate::line::{Stage, push_lines};
+use crate::line::Stage;
 use crate::next::next_threads;
 use crate::replay::takers_of;
 use crate::ring::push_ring;
@@ -40,13 +40,13 @@ fn run_count(hub: &Hub) -> u64
 }
 
 // Appends the lines of the threads that are left, and the ring.
-fn push_left_lines(alloc: Global, out: &mut Vec<u8>, stage: &Stage<'_>) -> Result<(), AllocError>
+fn push_left_lines(out: &mut Vec<u8>, stage: &Stage<'_>) -> Result<(), AllocError>
     requires { length stage.now.hub.now.course.world.threads ≤ length stage.now.turns.now }
     ensures { OnOk result (out.new.items ≡ out.old.items ++ spec.left_lines (plain_stage stage.now)) }
 {
-    push_lines(alloc, out, stage)?;
-    let nexts = next_threads(alloc, stage.hub, stage.takers)?;
-    push_ring(alloc, out, nexts.as_slice())
+    stage.push_lines(out)?;
+    let nexts = next_threads(stage.alloc, stage.hub, stage.takers)?;
+    push_ring(stage.alloc, out, nexts.as_slice())
 }
 
 // Whether none of either is left.
@@ -57,7 +57,7 @@ fn is_none_left(waits: u64, runs: u64) -> bool
 }
 
 // Appends what is said of the threads that are left, if any is.
-fn push_left(alloc: Global, out: &mut Vec<u8>, stage: &Stage<'_>) -> Result<(), AllocError>
+fn push_left(out: &mut Vec<u8>, stage: &Stage<'_>) -> Result<(), AllocError>
     requires { length stage.now.hub.now.course.world.threads ≤ length stage.now.turns.now }
     ensures { let h = stage.now.hub.now in OnOk result (out.new.items ≡ out.old.items
         ++ spec.left_text (plain_stage stage.now) (ending h.budget (run_of h.course)) h.budget h.course.items) }
@@ -69,7 +69,7 @@ fn push_left(alloc: Global, out: &mut Vec<u8>, stage: &Stage<'_>) -> Result<(), 
         return Ok(());
     }
     push_head(
-        alloc,
+        stage.alloc,
         out,
         waits,
         runs,
@@ -77,7 +77,7 @@ fn push_left(alloc: Global, out: &mut Vec<u8>, stage: &Stage<'_>) -> Result<(), 
         hub.budget(),
         hub.schedule(),
     )?;
-    push_left_lines(alloc, out, stage)
+    push_left_lines(out, stage)
 }
 
 // Appends how many threads ended at a fault, if any did.
@@ -110,6 +110,7 @@ pub fn explain_end(
     let spots = spots_of(alloc, hub)?;
     let turns = turn_counts(alloc, hub.schedule(), spots.len())?;
     let stage = Stage {
+        alloc,
         name,
         forms,
         places: places.as_slice(),
@@ -119,7 +120,7 @@ pub fn explain_end(
         turns: turns.as_slice(),
     };
     let mut out = Vec::new(alloc);
-    push_left(alloc, &mut out, &stage)?;
+    push_left(&mut out, &stage)?;
     push_faults(alloc, &mut out, hub.faults())?;
     Ok(out)
 }

@@ -1,18 +1,18 @@
 //! The line of a thread that is left when a run has ended.
 
-ghost use Rattle.std.specs.{Prelude.{◌≡◌, ◌++◌, ◌<◌, ◌≤◌, OnOk, Some, map, length, slice_get}, Option.{option_and_then}};
+ghost use Rattle.std.specs.Prelude.{◌≡◌, ◌++◌, ◌<◌, ◌≤◌, OnOk, Some, length, slice_get};
 ghost use Rattle.cml_ending.specs.Views.{plain_stage};
-ghost use Rattle.cml_ending.specs.Standings as standings;
+ghost use Rattle.cml_ending.specs.Standings.{spot_at as spot_of};
 ghost use Rattle.cml_ending.specs.Lines as spec;
 ghost use Rattle.cml_scan.specs.World.{PlainThread};
 
-use crate::standing::Spot;
+use crate::standing::{Spot, place_of, spot_at};
 use crate::state::who_is;
 use crate::takers::Takers;
 use crate::wait::push_awaited;
 use crate::words::push_many;
 use cml_hub::Hub;
-use cml_phrase::{Place, function_name, push_place, push_thread, statement_place};
+use cml_phrase::{Place, function_name, push_place, push_thread};
 use cml_text::Sexpr;
 use cml_value::{Group, Tid};
 use std::alloc::{AllocError, Global};
@@ -20,6 +20,8 @@ use std::alloc::{AllocError, Global};
 /// What is spoken of.
 #[derive(Clone, Copy)]
 pub(crate) struct Stage<'a> {
+    /// Where memory comes from.
+    pub(crate) alloc: Global,
     /// The name of the script's file.
     pub(crate) name: &'a str,
     /// The script's forms.
@@ -34,25 +36,6 @@ pub(crate) struct Stage<'a> {
     pub(crate) spots: &'a [Option<Spot>],
     /// How many turns each thread had.
     pub(crate) turns: &'a [usize],
-}
-
-// The spot of a thread.
-fn spot_at(spots: &[Option<Spot>], thread: u32) -> Option<Spot>
-    ensures { result ≡ standings.spot_at spots.now thread }
-{
-    match spots.get(thread as usize) {
-        Some(spot) => *spot,
-        None => None,
-    }
-}
-
-// Where a spot is.
-fn spot_place(places: &[Vec<Place>], spot: Option<Spot>) -> Option<Place>
-    ensures { result ≡ option_and_then (spec.spot_place (map (λ own. own.items) places.now)) spot }
-{
-    let spot = spot?;
-    let statement = spot.statement?;
-    statement_place(places, spot.function, statement)
 }
 
 // Appends a place, if it is known.
@@ -73,104 +56,81 @@ fn push_at(
     }
 }
 
-// Appends the function in which a spot is.
-fn push_in(out: &mut Vec<u8>, forms: &[Sexpr], spot: Option<Spot>) -> Result<(), AllocError>
-    ensures { OnOk result (out.new.items ≡ out.old.items ++ spec.in_words forms.now spot) }
-{
-    match spot {
-        Some(spot) => {
-            out.extend_from_slice(b", in ")?;
-            out.extend_from_slice(function_name(forms, spot.function).as_bytes())
+impl Stage<'_> {
+    // Appends the function in which the thread stands, if that is known.
+    fn push_in(&self, out: &mut Vec<u8>, thread: u32) -> Result<(), AllocError>
+        ensures { OnOk result (out.new.items ≡ out.old.items ++ spec.in_words self.now.forms.now (spot_of self.now.spots.now thread)) }
+    {
+        match spot_at(self.spots, thread) {
+            Some(spot) => {
+                out.extend_from_slice(b", in ")?;
+                out.extend_from_slice(function_name(self.forms, spot.function).as_bytes())
+            }
+            None => Ok(()),
         }
-        None => Ok(()),
     }
-}
 
-// Appends the thread, and where it stands.
-fn push_standing(
-    alloc: Global,
-    out: &mut Vec<u8>,
-    stage: &Stage<'_>,
-    thread: u32,
-) -> Result<(), AllocError>
-    ensures { OnOk result (out.new.items ≡ out.old.items ++ spec.standing_words (plain_stage stage.now) thread) }
-{
-    out.extend_from_slice(b"  ")?;
-    push_thread(alloc, out, stage.forms, who_is(stage.hub, thread))?;
-    let place = spot_place(stage.places, spot_at(stage.spots, thread));
-    push_at(alloc, out, stage.name, place)
-}
-
-// Appends the line of a thread that waits on this group.
-fn push_waiting(
-    alloc: Global,
-    out: &mut Vec<u8>,
-    stage: &Stage<'_>,
-    thread: u32,
-    group: &Group,
-) -> Result<(), AllocError>
-    ensures { OnOk result (out.new.items ≡ out.old.items ++ spec.waiting_line (plain_stage stage.now) thread group.now) }
-{
-    push_standing(alloc, out, stage, thread)?;
-    push_in(out, stage.forms, spot_at(stage.spots, thread))?;
-    out.extend_from_slice(b": ")?;
-    push_awaited(alloc, out, stage.forms, stage.hub, stage.takers, group)?;
-    out.extend_from_slice(b"\n")
-}
-
-// Appends the line of a thread that runs.
-fn push_running(
-    alloc: Global,
-    out: &mut Vec<u8>,
-    stage: &Stage<'_>,
-    thread: u32,
-) -> Result<(), AllocError>
-    requires { thread < length stage.now.turns.now }
-    ensures { OnOk result (out.new.items ≡ out.old.items ++ spec.running_line (plain_stage stage.now) thread) }
-{
-    push_standing(alloc, out, stage, thread)?;
-    out.extend_from_slice(b" runs, ")?;
-    let count = stage.turns[thread as usize];
-    push_many(alloc, out, " turn", " turns", count as u64)?;
-    out.extend_from_slice(b"\n")
-}
-
-// Appends the line of the thread of this number, if it is left.
-fn push_line(
-    alloc: Global,
-    out: &mut Vec<u8>,
-    stage: &Stage<'_>,
-    thread: u32,
-) -> Result<(), AllocError>
-    requires { thread < length stage.now.turns.now }
-    ensures { OnOk result ((t : PlainThread) → slice_get stage.now.hub.now.course.world.threads thread ≡ Some t →
-        out.new.items ≡ out.old.items ++ spec.thread_line (plain_stage stage.now) thread t) }
-{
-    let book = stage.hub.book();
-    if book.is_running(Tid(thread)) {
-        return push_running(alloc, out, stage, thread);
+    // Appends the thread, and where it stands.
+    fn push_standing(&self, out: &mut Vec<u8>, thread: u32) -> Result<(), AllocError>
+        ensures { OnOk result (out.new.items ≡ out.old.items ++ spec.standing_words (plain_stage self.now) thread) }
+    {
+        out.extend_from_slice(b"  ")?;
+        push_thread(self.alloc, out, self.forms, who_is(self.hub, thread))?;
+        let place = place_of(self.places, self.spots, thread);
+        push_at(self.alloc, out, self.name, place)
     }
-    match book.waiting(Tid(thread)) {
-        Some(group) => push_waiting(alloc, out, stage, thread, group),
-        None => Ok(()),
-    }
-}
 
-/// Appends the lines of all threads that are left.
-///
-/// # Errors
-/// Out of memory.
-pub(crate) fn push_lines(
-    alloc: Global,
-    out: &mut Vec<u8>,
-    stage: &Stage<'_>,
-) -> Result<(), AllocError>
-    requires { length stage.now.hub.now.course.world.threads ≤ length stage.now.turns.now }
-    ensures { OnOk result (out.new.items ≡ out.old.items
-        ++ spec.thread_lines (plain_stage stage.now) 0 stage.now.hub.now.course.world.threads) }
-{
-    for t in 0..stage.hub.book().next_thread().0 {
-        push_line(alloc, out, stage, t)?;
+    // Appends the line of a thread that waits on this group.
+    fn push_waiting(&self, out: &mut Vec<u8>, thread: u32, group: &Group) -> Result<(), AllocError>
+        ensures { OnOk result (out.new.items ≡ out.old.items ++ spec.waiting_line (plain_stage self.now) thread group.now) }
+    {
+        self.push_standing(out, thread)?;
+        self.push_in(out, thread)?;
+        out.extend_from_slice(b": ")?;
+        push_awaited(self.alloc, out, self.forms, self.hub, self.takers, group)?;
+        out.extend_from_slice(b"\n")
     }
-    Ok(())
+
+    // Appends the line of a thread that runs.
+    fn push_running(&self, out: &mut Vec<u8>, thread: u32) -> Result<(), AllocError>
+        requires { thread < length self.now.turns.now }
+        ensures { OnOk result (out.new.items ≡ out.old.items ++ spec.running_line (plain_stage self.now) thread) }
+    {
+        self.push_standing(out, thread)?;
+        out.extend_from_slice(b" runs, ")?;
+        let count = self.turns[thread as usize];
+        push_many(self.alloc, out, " turn", " turns", count as u64)?;
+        out.extend_from_slice(b"\n")
+    }
+
+    // Appends the line of the thread of this number, if it is left.
+    fn push_line(&self, out: &mut Vec<u8>, thread: u32) -> Result<(), AllocError>
+        requires { thread < length self.now.turns.now }
+        ensures { OnOk result ((t : PlainThread) → slice_get self.now.hub.now.course.world.threads thread ≡ Some t →
+            out.new.items ≡ out.old.items ++ spec.thread_line (plain_stage self.now) thread t) }
+    {
+        let book = self.hub.book();
+        if book.is_running(Tid(thread)) {
+            return self.push_running(out, thread);
+        }
+        match book.waiting(Tid(thread)) {
+            Some(group) => self.push_waiting(out, thread, group),
+            None => Ok(()),
+        }
+    }
+
+    /// Appends the lines of all threads that are left.
+    ///
+    /// # Errors
+    /// Out of memory.
+    pub(crate) fn push_lines(&self, out: &mut Vec<u8>) -> Result<(), AllocError>
+        requires { length self.now.hub.now.course.world.threads ≤ length self.now.turns.now }
+        ensures { OnOk result (out.new.items ≡ out.old.items
+            ++ spec.thread_lines (plain_stage self.now) 0 self.now.hub.now.course.world.threads) }
+    {
+        for t in 0..self.hub.book().next_thread().0 {
+            self.push_line(out, t)?;
+        }
+        Ok(())
+    }
 }

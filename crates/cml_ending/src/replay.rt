@@ -1,47 +1,18 @@
 //! A schedule is gone through once more.
 
-ghost use Rattle.std.specs.{Prelude.{◌≡◌, ℕ, None, true, false, IfOk, OnOk, Some, slice_get, ◌⊎◌, ◌∷◌, ◌++◌, []}, List.{list_any}};
+ghost use Rattle.std.specs.{Prelude.{◌≡◌, ℕ, None, false, IfOk, OnOk, Some, slice_get, ◌⊎◌}, List.{list_any}};
 ghost use Rattle.cml_scan.specs.World.{PlainThread};
 ghost use Rattle.cml_step.specs.Calls.{text_of};
-ghost use Rattle.cml_hub.specs.{Kept.{NoneOut}, Runs.{is_allowed}};
 ghost use Rattle.cml_value.specs.Group.{bases};
-ghost use Rattle.cml_ending.specs.Takes.{taker_in, KnowsTakers};
+ghost use Rattle.cml_ending.specs.{Again.{RunsAgain}, Takes.{taker_in, KnowsTakers}};
 ghost use Rattle.cml_ending.specs.Waits as waits;
 
+use crate::again::{begin_again, come, let_go};
 use crate::takers::Takers;
-use cml_hub::{Hub, Item};
+use cml_hub::Hub;
 use cml_scan::leaf_bases;
 use cml_value::{Base, BaseKind, Group, Tid};
-use std::alloc::{AllocError, AllocFailed, Global};
-
-// A hub at the beginning of the other's program.
-fn beginning(alloc: Global, hub: &Hub) -> Result<Hub, AllocError>
-    ensures program { IfOk result (λ new. new.course.program ≡ hub.now.course.program) }
-    ensures items { IfOk result (λ new. new.course.items ≡ []) }
-    ensures none_out { IfOk result (λ new. NoneOut new) }
-{
-    match Hub::begin(alloc, hub.program().copy()?, hub.budget(), None) {
-        Ok(new) => Ok(new),
-        Err(AllocFailed { value }) => {
-            drop(value);
-            Err(AllocError)
-        }
-    }
-}
-
-// The item comes, which is allowed now.
-fn come(alloc: Global, hub: &mut Hub, item: Item) -> Result<(), AllocError>
-    requires out { NoneOut hub.old }
-    requires allowed { is_allowed hub.old.course.world item ≡ true }
-    ensures program { OnOk result (hub.new.course.program ≡ hub.old.course.program) }
-    ensures items { OnOk result (hub.new.course.items ≡ hub.old.course.items ++ item ∷ []) }
-    ensures none_out { OnOk result (NoneOut hub.new) }
-{
-    match hub.follow(alloc, item)? {
-        true => Ok(()),
-        false => unreachable!(),
-    }
-}
+use std::alloc::{AllocError, Global};
 
 // The other hub's items come one after another in this hub, which stands at its beginning.
 fn follow_all(
@@ -50,9 +21,7 @@ fn follow_all(
     second: &mut Hub,
     takers: &mut Takers,
 ) -> Result<(), AllocError>
-    requires program { second.old.course.program ≡ hub.now.course.program }
-    requires items { second.old.course.items ≡ [] }
-    requires none_out { NoneOut second.old }
+    requires begun { RunsAgain hub.now second.old 0 }
     requires none_taken { (m : ℕ) → taker_in takers.old m ≡ None }
     ensures { OnOk result (KnowsTakers (text_of hub.now.course.program) hub.now.course.items takers.new) }
 {
@@ -67,18 +36,12 @@ fn follow_all(
     Ok(())
 }
 
-// The hub is used no more.
-#[inline(never)]
-fn let_go(hub: Hub) {
-    drop(hub);
-}
-
 // Who took from each M-variable last in the hub's schedule, which is gone through once more.
 fn replayed(alloc: Global, hub: &Hub) -> Result<Takers, AllocError>
     ensures { IfOk result (λ takers. KnowsTakers (text_of hub.now.course.program) hub.now.course.items takers) }
 {
     let mut takers = Takers::new(alloc);
-    let mut second = beginning(alloc, hub)?;
+    let mut second = begin_again(alloc, hub)?;
     let followed = follow_all(alloc, hub, &mut second, &mut takers);
     let_go(second);
     followed?;

@@ -1,14 +1,15 @@
 //! Where a thread stands.
 
-ghost use Rattle.std.specs.{Prelude.{◌≡◌, ◌<◌, ℕ, None, Some, IfOk, MatchOption, length, slice_get}, Option.{option_and_then}};
+ghost use Rattle.std.specs.{Prelude.{◌≡◌, ◌<◌, ℕ, None, Some, IfOk, MatchOption, length, map, slice_get}, Option.{option_and_then}};
 ghost use Rattle.cml_check.specs.Syntax.{PlainItem};
 ghost use Rattle.cml_step.specs.{Machines.{plain_held}, Shared.{plain_seen}};
 ghost use Rattle.cml_step.specs.declared.entry.Entry.TheVariants as entry;
-ghost use Rattle.cml_ending.specs.Standings.{AreSpots, IsSpotOf};
+ghost use Rattle.cml_ending.specs.{Lines.{spot_place}, Standings.{AreSpots, IsSpotOf}};
 ghost use Rattle.cml_ending.specs.Standings as spec;
 
 use cml_check::Prog;
 use cml_hub::Hub;
+use cml_phrase::{Place, statement_place};
 use cml_step::{Call, Machine, Seen};
 use cml_value::Tid;
 use std::alloc::{AllocError, Global};
@@ -20,8 +21,8 @@ pub struct Spot {
     pub statement: Option<usize>,
 }
 
-// The entry, if it is a call.
-fn as_call(seen: Seen<'_>) -> Option<&Call>
+/// The entry, if it is a call.
+pub fn as_call(seen: Seen<'_>) -> Option<&Call>
     ensures { MatchOption result (spec.as_call (plain_seen seen.entry) ≡ None)
         (λ call. spec.as_call (plain_seen seen.entry) ≡ Some (plain_held (entry.Call call.now))) }
 {
@@ -32,8 +33,8 @@ fn as_call(seen: Seen<'_>) -> Option<&Call>
     }
 }
 
-// The top call on the stack of a thread.
-fn top_call(machine: &Machine) -> Option<&Call>
+/// The top call on the stack of a thread.
+pub fn top_call(machine: &Machine) -> Option<&Call>
     ensures { MatchOption result (spec.top_call machine.now.stack ≡ None)
         (λ call. spec.top_call machine.now.stack ≡ Some (plain_held (entry.Call call.now))) }
 {
@@ -67,8 +68,8 @@ pub fn machine_spot(program: &Prog, machine: &Machine) -> Option<Spot>
     }
 }
 
-// Where the thread of this number stands.
-fn thread_spot(hub: &Hub, thread: Tid) -> Option<Spot>
+/// Where the thread of this number stands.
+pub fn thread_spot(hub: &Hub, thread: Tid) -> Option<Spot>
     requires { thread.0 < length hub.now.course.world.threads }
     ensures { IsSpotOf hub.now.course.program
         (option_and_then spec.call_of_machine (slice_get hub.now.course.machines thread.0)) result }
@@ -83,7 +84,7 @@ fn thread_spot(hub: &Hub, thread: Tid) -> Option<Spot>
 ///
 /// # Errors
 /// Out of memory.
-pub(crate) fn spots_of(alloc: Global, hub: &Hub) -> Result<Vec<Option<Spot>>, AllocError>
+pub fn spots_of(alloc: Global, hub: &Hub) -> Result<Vec<Option<Spot>>, AllocError>
     ensures spots { IfOk result (λ spots. AreSpots hub.now.course spots.items) }
     ensures count { IfOk result (λ spots. length spots.items ≡ length hub.now.course.world.threads) }
 {
@@ -92,4 +93,23 @@ pub(crate) fn spots_of(alloc: Global, hub: &Hub) -> Result<Vec<Option<Spot>>, Al
         spots.push(thread_spot(hub, Tid(t)))?;
     }
     Ok(spots)
+}
+
+/// The spot of a thread, among those of all.
+pub(crate) fn spot_at(spots: &[Option<Spot>], thread: u32) -> Option<Spot>
+    ensures { result ≡ spec.spot_at spots.now thread }
+{
+    match spots.get(thread as usize) {
+        Some(spot) => *spot,
+        None => None,
+    }
+}
+
+/// Where a thread stands in the text: these are the spots of all threads, and where the statements of each function begin.
+pub fn place_of(places: &[Vec<Place>], spots: &[Option<Spot>], thread: u32) -> Option<Place>
+    ensures { result ≡ option_and_then (spot_place (map (λ own. own.items) places.now)) (spec.spot_at spots.now thread) }
+{
+    let spot = spot_at(spots, thread)?;
+    let statement = spot.statement?;
+    statement_place(places, spot.function, statement)
 }

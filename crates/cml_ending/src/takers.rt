@@ -1,10 +1,11 @@
 //! Which thread took from an M-variable last.
 
-ghost use Rattle.std.specs.{Prelude.{◌≡◌, ℕ, ◌<◌, None, ◌∷◌, ◌++◌, [], length, IfOk, OnOk, OnErr}, Option.{option_and_then, option_or}};
+ghost use Rattle.std.specs.{Prelude.{◌≡◌, ℕ, None, ◌∷◌, ◌++◌, [], IfOk, OnOk, OnErr}, Option.{option_and_then, option_or}};
 ghost use Rattle.cml_step.specs.Calls.{text_of};
 ghost use Rattle.cml_ending.specs.Takes.{taker_in, KnowsTakers};
 ghost use Rattle.cml_ending.specs.Takes as spec;
 
+use crate::room::make_room;
 use cml_hub::{Hub, Item};
 use cml_scan::{Meet, leaf_bases};
 use cml_value::{Base, BaseKind, MVarId, Tid};
@@ -89,24 +90,13 @@ impl Takers {
         }
     }
 
-    // Makes room for this M-variable.
-    fn grow(&mut self, variable: usize) -> Result<(), AllocError>
-        ensures same { (m : ℕ) → taker_in self.new m ≡ taker_in self.old m }
-        ensures room { OnOk result (variable < length self.new.last.items) }
-    {
-        'growing: while self.last.len() <= variable {
-            self.last.push(None)?;
-        }
-        Ok(())
-    }
-
     // Keeps the take.
     fn keep(&mut self, take: Take) -> Result<(), AllocError>
         ensures ok { OnOk result ((m : ℕ) → taker_in self.new m ≡ option_or (spec.taker_if m take) (taker_in self.old m)) }
         ensures err { OnErr result ((m : ℕ) → taker_in self.new m ≡ taker_in self.old m) }
     {
         let place = take.variable as usize;
-        self.grow(place)?;
+        make_room(&mut self.last, place)?;
         self.last[place] = Some(take.thread);
         Ok(())
     }

@@ -6,7 +6,10 @@ ghost use Rattle.cml_ending.specs.Lines as spec;
 use std::alloc::{AllocError, Global};
 
 /// Appends a number.
-pub(crate) fn push_number(alloc: Global, out: &mut Vec<u8>, number: u64) -> Result<(), AllocError>
+///
+/// # Errors
+/// Out of memory.
+pub fn push_number(alloc: Global, out: &mut Vec<u8>, number: u64) -> Result<(), AllocError>
     ensures { OnOk result (out.new.items ≡ out.old.items ++ decimal number) }
 {
     let digits = format!(in alloc; "{number}")?;
@@ -14,7 +17,10 @@ pub(crate) fn push_number(alloc: Global, out: &mut Vec<u8>, number: u64) -> Resu
 }
 
 /// Appends how many there are of a thing, where one is called so, and more are.
-pub(crate) fn push_many(
+///
+/// # Errors
+/// Out of memory.
+pub fn push_many(
     alloc: Global,
     out: &mut Vec<u8>,
     one: &str,

@@ -1,4 +1,3 @@
-use Rattle.std.proofs.Common.{◌≡◌, ◌∙◌}
 use Rattle.cml_hub.specs.Runs.{ending}
 use Rattle.cml_hub.specs.Courses.{run_of}
 use Rattle.cml_ending.specs.Views.{plain_stage}

@@ -1,7 +1,6 @@
-use Rattle.std.proofs.Common.{◌≡◌, ◌++◌, subst, ap, sym, ◌∙◌}
+use Rattle.std.proofs.Common.{◌≡◌, ◌++◌, subst, ◌∙◌}
 use Rattle.std.specs.Prelude.{OnOk}
-use Rattle.cml_ending.specs.Rings.{ring_line, ring_among, next_threads}
-use Rattle.cml_ending.specs.Takes.{taker_in}
+use Rattle.cml_ending.specs.Rings.{ring_line, ring_among}
 use Rattle.cml_ending.proofs.AppendLemmas.{two_ok}
 use Rattle.cml_ending.proofs.end.push_left_lines.Goals as goal
 

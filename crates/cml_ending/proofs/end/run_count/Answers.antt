@@ -1,4 +1,4 @@
-use Rattle.std.proofs.Common.{◌≡◌, arith, sym, ap, ◌∙◌, length}
+use Rattle.std.proofs.Common.{arith, ap, ◌∙◌, length}
 use Rattle.cml_scan.specs.World.{PlainWorld}
 use Rattle.std.specs.Prelude.{count_by, slice_get, false}
 use Rattle.std.specs.Option.{option_map_or}

@@ -1,4 +1,4 @@
-use Rattle.std.proofs.Common.{◌≡◌, ◌∙◌, arith, ap, length}
+use Rattle.std.proofs.Common.{◌∙◌, arith, ap, length}
 use Rattle.cml_scan.specs.World.{PlainWorld}
 use Rattle.std.proofs.lemmas.List.{take_all}
 use Rattle.cml_ending.specs.Takes.{taker_in}

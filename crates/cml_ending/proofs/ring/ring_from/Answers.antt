@@ -1,5 +1,5 @@
-use Rattle.std.proofs.Common.{◌≡◌, ◌+◌, ap, ◌∙◌, arith, length, ◌-◌, Some, None, [], ◌∷◌, ◌++◌}
-use Rattle.cml_ending.specs.Rings.{way_to, ring_from, next_of}
+use Rattle.std.proofs.Common.{◌+◌, ap, ◌∙◌, length, ◌-◌, Some, [], ◌∷◌, ◌++◌}
+use Rattle.cml_ending.specs.Rings.{way_to}
 use Rattle.cml_ending.proofs.RingLemmas.{onward, begun, stops, steps_on, arrives, runs_out}
 use Rattle.cml_ending.proofs.ring.ring_from.Goals as goal
 

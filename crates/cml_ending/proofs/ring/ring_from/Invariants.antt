@@ -1,4 +1,4 @@
-use Rattle.std.proofs.Common.{◌≡◌, ◌-◌, length, Option, List, ℕ}
+use Rattle.std.proofs.Common.{◌≡◌, ◌-◌, length}
 use Rattle.cml_ending.specs.Rings.{ring_from, way_to}
 use Rattle.cml_ending.proofs.RingLemmas.{onward}
 use Rattle.cml_ending.proofs.ring.ring_from.Given as goal

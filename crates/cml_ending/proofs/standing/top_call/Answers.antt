@@ -1,4 +1,3 @@
-use Rattle.std.proofs.Common.{◌≡◌, sym}
 use Rattle.cml_step.specs.Shared.{plain_seen, left_of}
 use Rattle.cml_ending.proofs.StandingLemmas.{is_top, is_no_call}
 use Rattle.cml_ending.proofs.standing.top_call.Goals as goal

@@ -1,5 +1,4 @@
-use Rattle.std.proofs.Common.{arith, ap, length}
-use Rattle.cml_scan.specs.World.{PlainWorld}
+use Rattle.std.proofs.Common.{arith}
 use Rattle.cml_step.specs.Calls.{text_of}
 use Rattle.cml_hub.specs.Deeds.{origins}
 use Rattle.cml_ending.proofs.StuckLemmas.{held_more, held_found, held_none}
@@ -8,18 +7,14 @@ use Rattle.cml_ending.proofs.stuck.some_held_up.Goals as goal
 pub returns-then-is_held_up : goal.returns-then-is_held_up
 returns-then-is_held_up c =
     held_found c.args.servers.now (origins (text_of c.args.hub.now.course.program) c.args.hub.now.course.items)
-    c.args.hub.now.course.world.threads c.loop-t.t c.is_held_up.result _
-    (omega (arith, ap (λ (w : PlainWorld). length w.threads) c.book.ensures)) c.is_held_up.ensures
-    c.if-is_held_up.true c.loop-t.invariant
+    c.book.ensures c.loop-t.t c.is_held_up.result _ (omega arith) c.is_held_up.ensures c.if-is_held_up.true c.loop-t.invariant
 
 pub loop-t-preserved : goal.loop-t-preserved
 loop-t-preserved c =
     held_more c.args.servers.now (origins (text_of c.args.hub.now.course.program) c.args.hub.now.course.items)
-    c.args.hub.now.course.world.threads c.loop-t.t c.is_held_up.result _
-    (omega (arith, ap (λ (w : PlainWorld). length w.threads) c.book.ensures)) c.is_held_up.ensures
-    c.if-is_held_up.false c.loop-t.invariant
+    c.book.ensures c.loop-t.t c.is_held_up.result _ (omega arith) c.is_held_up.ensures c.if-is_held_up.false c.loop-t.invariant
 
 pub returns : goal.returns
-returns c = held_none c.args.servers.now (origins (text_of c.args.hub.now.course.program) c.args.hub.now.course.items)
-    c.args.hub.now.course.world.threads c.loop-t.t _
-    (omega (arith, ap (λ (w : PlainWorld). length w.threads) c.book.ensures)) c.loop-t.invariant
+returns c =
+    held_none c.args.servers.now (origins (text_of c.args.hub.now.course.program) c.args.hub.now.course.items)
+    c.book.ensures c.loop-t.t _ (omega arith) c.loop-t.invariant

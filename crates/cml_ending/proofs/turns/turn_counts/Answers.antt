@@ -1,6 +1,4 @@
-use Rattle.std.proofs.Common.{◌≡◌, ◌+◌, arith, ap, sym, ◌∙◌, cond}
-use Rattle.cml_ending.specs.Lines.{is_turn_of, turn_count}
-use Rattle.cml_ending.proofs.WordLemmas.{one_more_turn, few_turns, all_counted}
+use Rattle.cml_ending.proofs.WordLemmas.{all_counted}
 use Rattle.cml_ending.proofs.turns.turn_counts.Goals as goal
 
 pub returns : goal.returns
