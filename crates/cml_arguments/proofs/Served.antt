@@ -1,7 +1,8 @@
 -- What an argument that was served gives.
 use Rattle.std.proofs.Common.{◌≡◌, ◌&&◌, ◌≤◌, ◌||◌, ◌++◌, ap, ap₂, ℕ, Bool, codes, cond, true, false, refl, sym}
 use Rattle.std.proofs.Common.{subst, arith, List, [], ◌∷◌, Option, Some, None, IfSome, is_some, option_map}
-use Rattle.std.proofs.Common.{true≢false}
+use Rattle.std.proofs.Common.{true≢false, ltb}
+use borrow.Author.Tests.{ltb-true}
 use Rattle.std.specs.Prelude.{Ok, Err, Result, option_and_then, slice_get, unwrap_or}
 use Rattle.std.specs.Int.{IsInRange}
 use Rattle.std.specs.List.{find, list_all}
@@ -19,9 +20,7 @@ use Rattle.clap.specs.declared.builder.value_parser.Reading.TheVariants.{AsWritt
 use Rattle.clap.specs.declared.builder.value_parser.ValueParser.TheVariants as vp
 use Rattle.clap.proofs.ValueTestLemmas.{Accepts-accepts, accepts-Accepts}
 use Rattle.clap.proofs.WalkLemmas.{both}
-use Rattle.cml_arguments.specs.Words.{any_rule, count_rule, depth_rule, file_rule, flag_rule, is_as_written}
-use Rattle.cml_arguments.specs.Words.{is_flagged, has_first_value, is_served, option_number, number_rule, runs_rule}
-use Rattle.cml_arguments.specs.Words.{workers_rule, IsCount, IsDepth, IsRuns, IsWorkers}
+use Rattle.cml_arguments.specs.Words.{any_rule, end_rules, explain_rules, file_rule, flag_rule, is_as_written, is_flagged, has_first_value, is_served, option_number, number_rule, AreServed}
 
 pub as_written : (how : Reading) → is_as_written how ≡ true → how ≡ AsWritten
 as_written AsWritten plain = refl
@@ -30,7 +29,7 @@ as_written Boolish plain = absurd (true≢false (sym plain))
 as_written Falsey plain = absurd (true≢false (sym plain))
 
 -- where each argument of a command was served, the one of this name was
-pub served_by_name : (given : List Row) (rules : List Rule) (id : Text) (a : Rule) → list_all (is_served given) rules ≡ true → arg_by_id rules id ≡ Some a → is_served given a ≡ true
+served_by_name : (given : List Row) (rules : List Rule) (id : Text) (a : Rule) → list_all (is_served given) rules ≡ true → arg_by_id rules id ≡ Some a → is_served given a ≡ true
 served_by_name given [] id a served found = cc
 served_by_name given (x ∷ rest) id a served found =
     let parts = both _ _ served in
@@ -42,14 +41,39 @@ served_by_name given (x ∷ rest) id a served found =
         subst (λ (r : Rule). is_served given r ≡ true) same mine
     go false there others mine = others there
 
+-- where each argument is served, each of the last ones is
+served_last : (given : List Row) (first last : List Rule) → list_all (is_served given) (first ++ last) ≡ true → list_all (is_served given) last ≡ true
+served_last given [] last served = served
+served_last given (a ∷ rest) last served = served_last given rest last (both _ _ served).1
+
+-- and each of the first ones
+served_first : (given : List Row) (first last : List Rule) → list_all (is_served given) (first ++ last) ≡ true → list_all (is_served given) first ≡ true
+served_first given [] last served = refl
+served_first given (a ∷ rest) last served =
+    let parts = both (is_served given a) (list_all (is_served given) (rest ++ last)) served in
+    ap₂ (λ x y. x && y) parts.0 (served_first given rest last parts.1)
+
+-- and so are those by which a command is told how to end and to explain, which come after its own
+pub end_served : (given : List Row) (own : List Rule) → AreServed given (own ++ (end_rules ++ explain_rules)) → AreServed given end_rules
+end_served given own served = record { each = served_first given end_rules explain_rules (served_last given own (end_rules ++ explain_rules) served.each) }
+
+pub explain_served : (given : List Row) (own : List Rule) → AreServed given (own ++ explain_rules) → AreServed given explain_rules
+explain_served given own served = record { each = served_last given own explain_rules served.each }
+
+-- a flag of a command each of whose arguments was served was
+pub flag_served : (given : List Row) (rules : List Rule) (id : Text) → AreServed given rules → arg_by_id rules id ≡ Some (flag_rule id)
+    → is_served given (flag_rule id) ≡ true
+flag_served given rules id served named = served_by_name given rules id (flag_rule id) served.each named
+
 -- the first value is there, and passes
 filled_first : (test : Text → Bool) (values : List Text) → option_map_or test (slice_get values 0) false ≡ true → (v : Text) × (slice_get values 0 ≡ Some v) × (test v ≡ true)
 filled_first test [] filled = absurd (true≢false (sym filled))
 filled_first test (v ∷ vs) filled = (v, refl, filled)
 
 -- what must be given is given
-pub file_given : (given : List Row) (id : Text) → is_served given (file_rule id) ≡ true → is_some (first_of id given) ≡ true
-file_given given id served = go (find (λ row. bytes_eq row.id id) given) served
+pub file_given : (given : List Row) (rules : List Rule) (id : Text) → AreServed given rules → arg_by_id rules id ≡ Some (file_rule id)
+    → is_some (first_of id given) ≡ true
+file_given given rules id served named = go (find (λ row. bytes_eq row.id id) given) (served_by_name given rules id (file_rule id) served.each named)
   where
     go : (o : Option Row) → option_map_or (has_first_value (file_rule id)) o false ≡ true → is_some (option_and_then (λ r. slice_get r.values 0) o) ≡ true
     go None filled = absurd (true≢false (sym filled))
@@ -66,18 +90,6 @@ row_case test (v ∷ vs) how filled P some =
     subst (λ (h : Reading). P (Some (read_as h v)) (Some v)) (sym (as_written how parts.0)) (some v parts.1)
 
 -- ---- flags
-
--- where each argument is served, each of the last ones is
-pub served_last : (given : List Row) (first last : List Rule) → list_all (is_served given) (first ++ last) ≡ true → list_all (is_served given) last ≡ true
-served_last given [] last served = served
-served_last given (a ∷ rest) last served = served_last given rest last (both _ _ served).1
-
--- and each of the first ones
-pub served_first : (given : List Row) (first last : List Rule) → list_all (is_served given) (first ++ last) ≡ true → list_all (is_served given) first ≡ true
-served_first given [] last served = refl
-served_first given (a ∷ rest) last served =
-    let parts = both (is_served given a) (list_all (is_served given) (rest ++ last)) served in
-    ap₂ (λ x y. x && y) parts.0 (served_first given rest last parts.1)
 
 -- what a getter makes of a flag's row, which is read as it is written, is whether the flag is given
 pub reads_flag : (given : List Row) (id : Text) (r : Bool) → is_served given (flag_rule id) ≡ true → (one_of id given ≡ None → r ≡ false)
@@ -116,15 +128,15 @@ number_cases least most given id served P none some = go (find (λ row. bytes_eq
         row_case (is_unsigned_in least most) row.values row.reading filled P (λ text within. some text (accepts-Accepts false (vp.Unsigned least most) text within))
 
 -- a number within bounds is a number
-pub ranged_is_number : (least most : ℕ) → most ≤ 18446744073709551615 → (given : List Row) (id : Text) → is_served given (number_rule least most id) ≡ true
-    → is_served given (any_rule id) ≡ true
-ranged_is_number least most bound given id served = go (find (λ row. bytes_eq row.id id) given) served
+pub number_served : (given : List Row) (rules : List Rule) (id : Text) (least most : ℕ) → AreServed given rules
+    → arg_by_id rules id ≡ Some (number_rule least most id) → ltb most 18446744073709551616 ≡ true → is_served given (any_rule id) ≡ true
+number_served given rules id least most served named bound = go (find (λ row. bytes_eq row.id id) given) (served_by_name given rules id _ served.each named)
   where
     wider : (text : Text) → is_unsigned_in least most text ≡ true → is_unsigned_in 0 18446744073709551615 text ≡ true
     wider text within =
         let is = accepts-Accepts false (vp.Unsigned least most) text within in
         let below : digits_value 10 (without_leading_plus text) ≤ most = is.3 in
-        Accepts-accepts false (vp.Unsigned 0 18446744073709551615) text (is.0, is.1, omega arith, omega (arith, below, bound))
+        Accepts-accepts false (vp.Unsigned 0 18446744073709551615) text (is.0, is.1, omega arith, omega (arith, below, ltb-true _ _ bound))
 
     go : (o : Option Row) → option_map_or (has_first_value (number_rule least most id)) o true ≡ true → option_map_or (has_first_value (any_rule id)) o true ≡ true
     go None filled = refl
@@ -135,35 +147,29 @@ ranged_is_number least most bound given id served = go (find (λ row. bytes_eq r
         let here : slice_get row.values 0 ≡ Some first.0 = first.1 in
         rw (plain, here) (wider first.0 first.2)
 
-pub count_is_number : (given : List Row) (id : Text) → is_served given (count_rule id) ≡ true → is_served given (any_rule id) ≡ true
-count_is_number given id served = ranged_is_number 1 1000000000 (omega arith) given id served
-
-pub workers_are_number : (given : List Row) (id : Text) → is_served given (workers_rule id) ≡ true → is_served given (any_rule id) ≡ true
-workers_are_number given id served = ranged_is_number 1 64 (omega arith) given id served
-
-pub runs_are_number : (given : List Row) (id : Text) → is_served given (runs_rule id) ≡ true → is_served given (any_rule id) ≡ true
-runs_are_number given id served = ranged_is_number 1 1000000 (omega arith) given id served
-
-pub depth_is_number : (given : List Row) (id : Text) → is_served given (depth_rule id) ≡ true → is_served given (any_rule id) ≡ true
-depth_is_number given id served = ranged_is_number 1 64 (omega arith) given id served
-
 -- and lies within them
-ranged : (least most : ℕ) (given : List Row) (id : Text) → is_served given (number_rule least most id) ≡ true → IfSome (option_number id given) (IsInRange least most)
-ranged least most given id served =
-    number_cases least most given id served
+in_range : (given : List Row) (rules : List Rule) (id : Text) (least most : ℕ) → AreServed given rules
+    → arg_by_id rules id ≡ Some (number_rule least most id) → IfSome (option_number id given) (IsInRange least most)
+in_range given rules id least most served named =
+    number_cases least most given id (served_by_name given rules id _ served.each named)
     (λ one first. IfSome (option_map (λ text. digits_value 10 (without_leading_plus text)) first) (IsInRange least most)) tt (λ text within. (within.2, within.3))
 
-pub counts : (given : List Row) (id : Text) → is_served given (count_rule id) ≡ true → IfSome (option_number id given) IsCount
-counts given id served = ranged 1 1000000000 given id served
+-- so is the number that was read, where one was given
+pub number_in_range : (given : List Row) (rules : List Rule) (id : Text) (least most : ℕ) (read : Option ℕ) → AreServed given rules
+    → arg_by_id rules id ≡ Some (number_rule least most id) → read ≡ option_number id given → IfSome read (IsInRange least most)
+number_in_range given rules id least most read served named is =
+    subst (λ (o : Option ℕ). IfSome o (IsInRange least most)) (sym is) (in_range given rules id least most served named)
 
-pub few : (given : List Row) (id : Text) → is_served given (workers_rule id) ≡ true → IfSome (option_number id given) IsWorkers
-few given id served = ranged 1 64 given id served
+-- and the one that is taken where none was given
+or_in_range : (least most default : ℕ) (o : Option ℕ) → IfSome o (IsInRange least most) → IsInRange least most default → IsInRange least most (unwrap_or o default)
+or_in_range least most default None within here = here
+or_in_range least most default (Some n) within here = within
 
-pub many : (given : List Row) (id : Text) → is_served given (runs_rule id) ≡ true → IfSome (option_number id given) IsRuns
-many given id served = ranged 1 1000000 given id served
-
-pub deep : (given : List Row) (id : Text) → is_served given (depth_rule id) ≡ true → IfSome (option_number id given) IsDepth
-deep given id served = ranged 1 64 given id served
+pub default_in_range : (given : List Row) (rules : List Rule) (id : Text) (least most default n : ℕ) (read : Option ℕ) → AreServed given rules
+    → arg_by_id rules id ≡ Some (number_rule least most id) → IsInRange least most default → read ≡ option_number id given → n ≡ unwrap_or read default
+    → IsInRange least most n
+default_in_range given rules id least most default n read served named here is taken =
+    subst (IsInRange least most) (sym taken) (or_in_range least most default read (number_in_range given rules id least most read served named is) here)
 
 -- the number that `get_one` reads is the one that was given
 pub reads_number : (E : Type 0) (G : List ℕ → Result ℕ E → Type 0) (given : List Row) (id : Text) (r : Option ℕ) → is_served given (any_rule id) ≡ true
@@ -177,28 +183,3 @@ reads_number E G given id r served only none some =
     read : (text : Text) → IsUnsignedIn 0 18446744073709551615 text → (r : Option ℕ) → ReadsOne G text r → r ≡ Some (digits_value 10 (without_leading_plus text))
     read text within (Some n) reads = ap (λ m. Some m) (only text (Ok n) reads).1
     read text within None reads = absurd (only text (Err reads.0) reads.1 (within.0, within.1))
-
--- so does the number of steps, which is 1,000,000 where none was given
-pub steps_count : (o : Option ℕ) → IfSome o IsCount → IsCount (unwrap_or o 1000000)
-steps_count None within = (omega arith, omega arith)
-steps_count (Some n) within = within
-
--- and that of the first item, which is 1 where none was given
-pub first_count : (o : Option ℕ) → IfSome o IsCount → IsCount (unwrap_or o 1)
-first_count None within = (omega arith, omega arith)
-first_count (Some n) within = within
-
--- and the number of workers, which is 1 where none was given
-pub workers_count : (o : Option ℕ) → IfSome o IsWorkers → IsWorkers (unwrap_or o 1)
-workers_count None within = (omega arith, omega arith)
-workers_count (Some n) within = within
-
--- and that of runs, which is 100 where none was given
-pub runs_count : (o : Option ℕ) → IfSome o IsRuns → IsRuns (unwrap_or o 100)
-runs_count None within = (omega arith, omega arith)
-runs_count (Some n) within = within
-
--- and that of replays, which is 10,000 where none was given
-pub tries_count : (o : Option ℕ) → IfSome o IsCount → IsCount (unwrap_or o 10000)
-tries_count None within = (omega arith, omega arith)
-tries_count (Some n) within = within

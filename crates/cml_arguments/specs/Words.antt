@@ -8,7 +8,10 @@ use Rattle.std.specs.Str.{bytes_eq}
 use Rattle.std.specs.String.{string_bytes}
 use Rattle.std.specs.Str.Parse.{digits_value, without_leading_plus}
 use Rattle.clap.specs.Takes.{value_passes}
-use Rattle.clap.specs.Words.{App, Shape, Rule, Row, Text, new_app, new_rule, fault_of, Kinds, IsAmong, all_of, first_of, subcommand_of, with_subcommand}
+use Rattle.clap.specs.Words.{App, Shape, Rule, Row, Text, new_app, new_rule, rule_of, shape_of, fault_of, Kinds, IsAmong, all_of, first_of, subcommand_of, with_subcommand}
+use Rattle.clap.specs.declared.builder.arg.Arg.{Arg}
+use Rattle.clap.specs.declared.builder.command.Command.{Command}
+use Rattle.clap.specs.declared.builder.command.Command.TheViews.{out-Command}
 use Rattle.clap.specs.declared.builder.action.ArgAction.TheVariants.{Append, Set, SetTrue}
 use Rattle.clap.specs.declared.builder.value_parser.Reading.{Reading}
 use Rattle.clap.specs.declared.builder.value_parser.Reading.TheVariants.{AsWritten}
@@ -88,6 +91,21 @@ order_rules = flag_rule (codes "turns") ∷ depth_rule (codes "priority") ∷ []
 -- the options by which a command is told what to make of many runs
 abbrev pub finding_rules : List Rule
 finding_rules = option_rule (codes "save") ∷ list_rule (codes "servers") ∷ option_rule (codes "until") ∷ []
+
+-- the argument follows this rule, and is its command's alone
+pub record FollowsRule (wanted : Rule) (arg : Arg) : Type 0 where
+  pub rule : rule_of arg ≡ wanted
+  pub global : arg.global ≡ false
+
+-- the command has this shape, and no argument that the commands below it take too
+pub record IsShapedAs (wanted : Shape) (command : Command) : Type 0 where
+  pub shape : shape_of command ≡ wanted
+  pub globals : (out-Command command).has_globals ≡ false
+
+-- the command is another with its shape so changed, and has arguments that the commands below it take too only where the other had
+pub record IsReshaped (change : Shape → Shape) (old new : Command) : Type 0 where
+  pub shape : shape_of new ≡ change (shape_of old)
+  pub globals : (out-Command new).has_globals ≡ (out-Command old).has_globals
 
 -- a command with these arguments
 abbrev pub command_of : Text → List Rule → Shape
@@ -401,6 +419,10 @@ has_first_value argument row = is_as_written row.reading && option_map_or (value
 -- an argument was given such a value, or none where it may go without
 abbrev pub is_served : List Row → Rule → Bool
 is_served given argument = option_map_or (has_first_value argument) (find (λ row. bytes_eq row.id argument.id) given) (not argument.required)
+
+-- each of these arguments was served
+pub record AreServed (given : List Row) (rules : List Rule) : Type 0 where
+  pub each : list_all (is_served given) rules ≡ true
 
 -- a command of the program was named, and each of its arguments was served
 abbrev pub is_complete : App → Option (Text × List Row) → Bool

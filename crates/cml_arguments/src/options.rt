@@ -1,8 +1,9 @@
 //! The command that the arguments name, with what they give it.
+#![tactic(auto, using(crate::proofs::Served::file_given, crate::proofs::Served::flag_served, crate::proofs::Served::number_served, crate::proofs::Named::named_complete, crate::proofs::Named::named_task))]
 
-ghost use Rattle.std.specs.{Prelude.{◌≡◌, ◌<◌, ◌-◌, [], true, is_some, map, IfOk, IsSomeAnd, Some}, List.{list_all}};
+ghost use Rattle.std.specs.Prelude.{◌≡◌, ◌<◌, ◌-◌, [], true, is_some, map, IfOk, IsSomeAnd, Some};
 ghost use Rattle.clap.specs.Words.{first_of, found_of, rows_of, subcommand_rows_of};
-ghost use Rattle.cml_arguments.specs.Words.{any_rule, commands, end_rules, explain_rules, explanation, explore_command, file_command, flag_rule, is_complete, is_flagged, is_served, option_number, option_texts, part_command, replay_command, run_command, shrink_command, step_command, trace_command, IsEnd, IsExplore, IsFile, IsPart, IsReplay, IsRun, IsShrink, IsStepping, IsTrace, Names};
+ghost use Rattle.cml_arguments.specs.Words.{any_rule, commands, end_rules, explain_rules, explanation, explore_command, file_command, flag_rule, is_complete, is_flagged, is_served, option_number, option_texts, part_command, replay_command, run_command, shrink_command, step_command, trace_command, AreServed, IsEnd, IsExplore, IsFile, IsPart, IsReplay, IsRun, IsShrink, IsStepping, IsTrace, Names};
 
 use crate::{
     EndOptions, Explain, ExploreOptions, FileOptions, PartOptions, ReplayOptions, RunOptions,
@@ -10,6 +11,9 @@ use crate::{
 };
 use clap::ArgMatches;
 use std::alloc::{AllocError, Global};
+
+// What was given, or out of memory.
+type Given<T> = Result<T, AllocError>;
 
 // How many steps a script may take where no number is given.
 const DEFAULT_STEPS: u64 = 1_000_000;
@@ -48,7 +52,7 @@ pub fn task_of<'a>(alloc: Global, matches: &ArgMatches<'a>) -> Result<Task<'a>, 
 
 // What `trace` was given.
 fn trace_options(matches: &ArgMatches<'_>) -> TraceOptions
-    requires { list_all (is_served (rows_of (found_of matches.now))) trace_command.rules ≡ true }
+    requires { AreServed (rows_of (found_of matches.now)) trace_command.rules }
     ensures { IsTrace (rows_of (found_of matches.now)) result }
 {
     TraceOptions {
@@ -59,7 +63,7 @@ fn trace_options(matches: &ArgMatches<'_>) -> TraceOptions
 
 // What a command was given that takes a file alone.
 fn file_options<'a>(matches: &ArgMatches<'a>) -> FileOptions<'a>
-    requires { list_all (is_served (rows_of (found_of matches.now))) (file_command []).rules ≡ true }
+    requires { AreServed (rows_of (found_of matches.now)) (file_command []).rules }
     ensures { IsFile (rows_of (found_of matches.now)) result }
 {
     FileOptions {
@@ -69,11 +73,10 @@ fn file_options<'a>(matches: &ArgMatches<'a>) -> FileOptions<'a>
 }
 
 // What `run` was given.
-fn run_options<'a>(alloc: Global, matches: &ArgMatches<'a>) -> Result<RunOptions<'a>, AllocError>
-    requires { list_all (is_served (rows_of (found_of matches.now))) run_command.rules ≡ true }
+fn run_options<'a>(alloc: Global, matches: &ArgMatches<'a>) -> Given<RunOptions<'a>>
+    requires { AreServed (rows_of (found_of matches.now)) run_command.rules }
     ensures { IfOk result (IsRun (rows_of (found_of matches.now))) }
 {
-    let end = end_options(alloc, matches)?;
     Ok(RunOptions {
         file: given(matches, "FILE"),
         workers: number(matches, "workers").unwrap_or(1) as usize,
@@ -82,32 +85,28 @@ fn run_options<'a>(alloc: Global, matches: &ArgMatches<'a>) -> Result<RunOptions
         watch: number(matches, "watch"),
         record: matches.get_str("record"),
         draw: matches.get_str("draw"),
-        end,
+        end: end_options(alloc, matches)?,
         explain: explain_option(matches),
     })
 }
 
 // What `replay` was given.
-fn replay_options<'a>(
-    alloc: Global,
-    matches: &ArgMatches<'a>,
-) -> Result<ReplayOptions<'a>, AllocError>
-    requires { list_all (is_served (rows_of (found_of matches.now))) replay_command.rules ≡ true }
+fn replay_options<'a>(alloc: Global, matches: &ArgMatches<'a>) -> Given<ReplayOptions<'a>>
+    requires { AreServed (rows_of (found_of matches.now)) replay_command.rules }
     ensures { IfOk result (IsReplay (rows_of (found_of matches.now))) }
 {
-    let end = end_options(alloc, matches)?;
     Ok(ReplayOptions {
         script: given(matches, "FILE"),
         schedule: given(matches, "SCHEDULE"),
         watch: number(matches, "watch"),
-        end,
+        end: end_options(alloc, matches)?,
         explain: explain_option(matches),
     })
 }
 
 // What a command was given that takes a part of a schedule.
 fn part_options<'a>(matches: &ArgMatches<'a>) -> PartOptions<'a>
-    requires { list_all (is_served (rows_of (found_of matches.now))) (part_command []).rules ≡ true }
+    requires { AreServed (rows_of (found_of matches.now)) (part_command []).rules }
     ensures { IsPart (rows_of (found_of matches.now)) result }
 {
     let schedule = given(matches, "SCHEDULE");
@@ -120,11 +119,8 @@ fn part_options<'a>(matches: &ArgMatches<'a>) -> PartOptions<'a>
 }
 
 // What `explore` was given.
-fn explore_options<'a>(
-    alloc: Global,
-    matches: &ArgMatches<'a>,
-) -> Result<ExploreOptions<'a>, AllocError>
-    requires { list_all (is_served (rows_of (found_of matches.now))) explore_command.rules ≡ true }
+fn explore_options<'a>(alloc: Global, matches: &ArgMatches<'a>) -> Given<ExploreOptions<'a>>
+    requires { AreServed (rows_of (found_of matches.now)) explore_command.rules }
     ensures { IfOk result (IsExplore (rows_of (found_of matches.now))) }
 {
     let servers = texts(alloc, matches, "servers")?;
@@ -144,7 +140,7 @@ fn explore_options<'a>(
 
 // What `shrink` was given.
 fn shrink_options<'a>(matches: &ArgMatches<'a>) -> ShrinkOptions<'a>
-    requires { list_all (is_served (rows_of (found_of matches.now))) shrink_command.rules ≡ true }
+    requires { AreServed (rows_of (found_of matches.now)) shrink_command.rules }
     ensures { IsShrink (rows_of (found_of matches.now)) result }
 {
     let schedule = given(matches, "SCHEDULE");
@@ -157,7 +153,7 @@ fn shrink_options<'a>(matches: &ArgMatches<'a>) -> ShrinkOptions<'a>
 
 // What `step` was given.
 fn step_options<'a>(matches: &ArgMatches<'a>) -> StepOptions<'a>
-    requires { list_all (is_served (rows_of (found_of matches.now))) step_command.rules ≡ true }
+    requires { AreServed (rows_of (found_of matches.now)) step_command.rules }
     ensures { IsStepping (rows_of (found_of matches.now)) result }
 {
     StepOptions {
@@ -167,8 +163,8 @@ fn step_options<'a>(matches: &ArgMatches<'a>) -> StepOptions<'a>
 }
 
 // What is said of threads that are left at the end.
-fn end_options<'a>(alloc: Global, matches: &ArgMatches<'a>) -> Result<EndOptions<'a>, AllocError>
-    requires { list_all (is_served (rows_of (found_of matches.now))) end_rules ≡ true }
+fn end_options<'a>(alloc: Global, matches: &ArgMatches<'a>) -> Given<EndOptions<'a>>
+    requires { AreServed (rows_of (found_of matches.now)) end_rules }
     ensures { IfOk result (IsEnd (rows_of (found_of matches.now))) }
 {
     let servers = texts(alloc, matches, "servers")?;
@@ -180,7 +176,7 @@ fn end_options<'a>(alloc: Global, matches: &ArgMatches<'a>) -> Result<EndOptions
 
 // What is said of explaining what is wrong: `--plain` turns it off, also where `--explain` asks for it.
 fn explain_option(matches: &ArgMatches<'_>) -> Explain
-    requires { list_all (is_served (rows_of (found_of matches.now))) explain_rules ≡ true }
+    requires { AreServed (rows_of (found_of matches.now)) explain_rules }
     ensures { result ≡ explanation (rows_of (found_of matches.now)) }
 {
     if flag(matches, "plain") {

@@ -1,8 +1,8 @@
 //! The commands of the program and their arguments, as clap is told of them.
 
 ghost use Rattle.std.specs.Prelude.{◌≡◌, ◌<◌, ◌-◌, [], ◌∷◌, codes, false, true, IfOk};
-ghost use Rattle.clap.specs.{Words.{app_of, rule_of, shape_of}, declared.builder.command.Command.TheViews.{out-Command}};
-ghost use Rattle.cml_arguments.specs.Words.{any_rule, command_of, commands, count_rule, depth_rule, explains, explore_command, file_command, file_rule, flag_rule, list_rule, option_rule, part_command, replay_command, run_command, runs_rule, shrink_command, step_command, trace_command, with_end, with_explain, with_finding, with_order, with_others, workers_rule};
+ghost use Rattle.clap.specs.Words.{app_of};
+ghost use Rattle.cml_arguments.specs.Words.{any_rule, command_of, commands, count_rule, depth_rule, explains, explore_command, file_command, file_rule, flag_rule, list_rule, option_rule, part_command, replay_command, run_command, runs_rule, shrink_command, step_command, trace_command, with_end, with_explain, with_finding, with_order, with_others, workers_rule, FollowsRule, IsShapedAs, IsReshaped};
 
 use clap::{Arg, ArgAction, Command, value_parser};
 use std::alloc::{AllocError, Global};
@@ -61,14 +61,9 @@ fn others<'a>(alloc: Global, program: Command<'a>) -> Result<Command<'a>, AllocE
 
 // The command that answers a trace.
 fn trace<'a>(alloc: Global) -> Result<Command<'a>, AllocError>
-    ensures shape { IfOk result (λ command. shape_of command ≡ trace_command) }
-    ensures globals { IfOk result (λ command. (out-Command command).has_globals ≡ false) }
+    ensures { IfOk result (IsShapedAs trace_command) }
 {
-    let live = flag_of(
-        alloc,
-        "live",
-        "Answers each line as soon as it has been read",
-    );
+    let live = flag_of(alloc, "live").help("Answers each line as soon as it has been read");
     let command = Command::new(alloc, "trace")
         .about("Answers the commands on standard input")
         .arg(live)?;
@@ -77,56 +72,38 @@ fn trace<'a>(alloc: Global) -> Result<Command<'a>, AllocError>
 
 // The command that runs a script.
 fn run<'a>(alloc: Global) -> Result<Command<'a>, AllocError>
-    ensures shape { IfOk result (λ command. shape_of command ≡ run_command) }
-    ensures globals { IfOk result (λ command. (out-Command command).has_globals ≡ false) }
+    ensures { IfOk result (IsShapedAs run_command) }
 {
-    let workers = workers(
-        alloc,
-        "How many workers run its threads, 1 to 64 [default: 1]",
-    );
-    let steps = count(
-        alloc,
-        "steps",
-        "B",
+    let workers = workers(alloc).help("How many workers run its threads, 1 to 64 [default: 1]");
+    let steps = count(alloc, "steps", "B").help(
         "How many steps it may take, 1 to 1000000000 [default: 1000000]",
     );
-    let seed = seed(alloc, "Draws the choices from this number");
-    let watch = watch(alloc);
-    let record = record(alloc);
-    let draw = option(alloc, "draw", "FILE", "Saves a picture of the run");
-    let command = on_file(alloc, "run", "Runs a script")?
-        .arg(workers)?
-        .arg(steps)?
-        .arg(seed)?
-        .arg(watch)?
-        .arg(record)?
-        .arg(draw)?;
+    let seed = seed(alloc).help("Draws the choices from this number");
+    let draw = option(alloc, "draw", "FILE").help("Saves a picture of the run");
+    let own = vec![in alloc; workers, steps, seed, watch(alloc), record(alloc), draw]?;
+    let command = on_file(alloc, "run", "Runs a script")?.args(own)?;
     let ended = ending(alloc, command)?;
     explaining(alloc, ended)
 }
 
 // The command that runs a script again.
 fn replay<'a>(alloc: Global) -> Result<Command<'a>, AllocError>
-    ensures shape { IfOk result (λ command. shape_of command ≡ replay_command) }
-    ensures globals { IfOk result (λ command. (out-Command command).has_globals ≡ false) }
+    ensures { IfOk result (IsShapedAs replay_command) }
 {
-    let schedule = file(alloc, "SCHEDULE");
-    let watch = watch(alloc);
+    let own = vec![in alloc; file(alloc, "SCHEDULE"), watch(alloc)]?;
     let command = on_file(
         alloc,
         "replay",
         "Runs a script by a schedule that was saved",
     )?
-    .arg(schedule)?
-    .arg(watch)?;
+    .args(own)?;
     let ended = ending(alloc, command)?;
     explaining(alloc, ended)
 }
 
 // The command that says what happens in a run.
 fn explain_run<'a>(alloc: Global) -> Result<Command<'a>, AllocError>
-    ensures shape { IfOk result (λ command. shape_of command ≡ part_command (codes "explain")) }
-    ensures globals { IfOk result (λ command. (out-Command command).has_globals ≡ false) }
+    ensures { IfOk result (IsShapedAs (part_command (codes "explain"))) }
 {
     part_of_run(
         alloc,
@@ -139,8 +116,7 @@ fn explain_run<'a>(alloc: Global) -> Result<Command<'a>, AllocError>
 
 // The command that draws what happens in a run.
 fn draw<'a>(alloc: Global) -> Result<Command<'a>, AllocError>
-    ensures shape { IfOk result (λ command. shape_of command ≡ part_command (codes "draw")) }
-    ensures globals { IfOk result (λ command. (out-Command command).has_globals ≡ false) }
+    ensures { IfOk result (IsShapedAs (part_command (codes "draw"))) }
 {
     part_of_run(
         alloc,
@@ -159,123 +135,88 @@ fn part_of_run<'a>(
     first: &'a str,
     last: &'a str,
 ) -> Result<Command<'a>, AllocError>
-    ensures shape { IfOk result (λ command. shape_of command ≡ part_command name.now) }
-    ensures globals { IfOk result (λ command. (out-Command command).has_globals ≡ false) }
+    ensures { IfOk result (IsShapedAs (part_command name.now)) }
 {
-    let schedule = file(alloc, "SCHEDULE");
-    let from = count(alloc, "from", "I", first);
-    let to = count(alloc, "to", "J", last);
-    on_file(alloc, name, about)?
-        .arg(schedule)?
-        .arg(from)?
-        .arg(to)
+    let from = count(alloc, "from", "I").help(first);
+    let to = count(alloc, "to", "J").help(last);
+    let own = vec![in alloc; file(alloc, "SCHEDULE"), from, to]?;
+    on_file(alloc, name, about)?.args(own)
 }
 
 // The command that runs a script many times.
 fn explore<'a>(alloc: Global) -> Result<Command<'a>, AllocError>
-    ensures shape { IfOk result (λ command. shape_of command ≡ explore_command) }
-    ensures globals { IfOk result (λ command. (out-Command command).has_globals ≡ false) }
+    ensures { IfOk result (IsShapedAs explore_command) }
 {
-    let runs = runs(alloc);
-    let seed = seed(
-        alloc,
+    let runs = runs(alloc).help("How many runs, 1 to 1000000 [default: 100]");
+    let seed = seed(alloc).help(
         "The seed of the first run; each further one has the next [default: 0]",
     );
-    let steps = count(
-        alloc,
-        "steps",
-        "B",
+    let steps = count(alloc, "steps", "B").help(
         "How many steps each may take, 1 to 1000000000 [default: 1000000]",
     );
-    let workers = workers(
-        alloc,
-        "How many workers make the runs, 1 to 64 [default: 1]",
-    );
+    let workers = workers(alloc).help("How many workers make the runs, 1 to 64 [default: 1]");
+    let own = vec![in alloc; runs, seed, steps, workers]?;
     let counted = on_file(
         alloc,
         "explore",
         "Runs a script many times, and says how the runs end",
     )?
-    .arg(runs)?
-    .arg(seed)?
-    .arg(steps)?
-    .arg(workers)?;
+    .args(own)?;
     let ordered = ordering(alloc, counted)?;
     finding(alloc, ordered)
 }
 
 // The command, which says too how the order of the turns comes about.
 fn ordering<'a>(alloc: Global, command: Command<'a>) -> Result<Command<'a>, AllocError>
-    requires { (out-Command command).has_globals ≡ false }
-    ensures shape { IfOk result (λ new. shape_of new ≡ with_order (shape_of command.entry)) }
-    ensures globals { IfOk result (λ new. (out-Command new).has_globals ≡ false) }
+    ensures { IfOk result (IsReshaped with_order command.entry) }
 {
-    let turns = flag_of(alloc, "turns", "Draws the order of the threads' turns too");
-    let priority = priority(alloc);
-    command.arg(turns)?.arg(priority)
+    let turns = flag_of(alloc, "turns").help("Draws the order of the threads' turns too");
+    let priority = priority(alloc).help(
+        "Gives the turns by priorities, which are drawn and change at D - 1 points, 1 to 64",
+    );
+    command.args(vec![in alloc; turns, priority]?)
 }
 
 // The command, which says too what is made of the runs.
 fn finding<'a>(alloc: Global, command: Command<'a>) -> Result<Command<'a>, AllocError>
-    requires { (out-Command command).has_globals ≡ false }
-    ensures shape { IfOk result (λ new. shape_of new ≡ with_finding (shape_of command.entry)) }
-    ensures globals { IfOk result (λ new. (out-Command new).has_globals ≡ false) }
+    ensures { IfOk result (IsReshaped with_finding command.entry) }
 {
-    let save = option(
-        alloc,
-        "save",
-        "PREFIX",
+    let save = option(alloc, "save", "PREFIX").help(
         "Saves the shortest schedule of each kind of end, as PREFIX-1.schedule and so on",
     );
-    let servers = servers(alloc);
-    let until = option(
-        alloc,
-        "until",
-        "WORD",
+    let until = option(alloc, "until", "WORD").help(
         "Stops at the first run of this kind: waits, fault or budget",
     );
-    command.arg(save)?.arg(servers)?.arg(until)
+    command.args(vec![in alloc; save, servers(alloc), until]?)
 }
 
 // The command that looks for a shorter schedule.
 fn shrink<'a>(alloc: Global) -> Result<Command<'a>, AllocError>
-    ensures shape { IfOk result (λ command. shape_of command ≡ shrink_command) }
-    ensures globals { IfOk result (λ command. (out-Command command).has_globals ≡ false) }
+    ensures { IfOk result (IsShapedAs shrink_command) }
 {
-    let schedule = file(alloc, "SCHEDULE");
-    let tries = count(
-        alloc,
-        "tries",
-        "N",
+    let tries = count(alloc, "tries", "N").help(
         "How many replays it may take, 1 to 1000000000 [default: 10000]",
     );
+    let own = vec![in alloc; file(alloc, "SCHEDULE"), tries]?;
     on_file(
         alloc,
         "shrink",
         "Looks for a shorter schedule of a run that ends alike",
     )?
-    .arg(schedule)?
-    .arg(tries)
+    .args(own)
 }
 
 // The command that runs a script by hand.
 fn step<'a>(alloc: Global) -> Result<Command<'a>, AllocError>
-    ensures shape { IfOk result (λ command. shape_of command ≡ step_command) }
-    ensures globals { IfOk result (λ command. (out-Command command).has_globals ≡ false) }
+    ensures { IfOk result (IsShapedAs step_command) }
 {
-    let record = record(alloc);
-    on_file(
-        alloc,
-        "step",
-        "Runs a script by hand: shows what can happen, and asks what does",
-    )?
-    .arg(record)
+    let about = "Runs a script by hand: shows what can happen, and asks what does";
+    on_file(alloc, "step", about)?.arg(record(alloc))
 }
 
 // A command that takes a file alone.
 fn file_alone<'a>(alloc: Global, name: &'a str, about: &'a str) -> Result<Command<'a>, AllocError>
-    ensures shape { IfOk result (λ command. shape_of command ≡ file_command name.now) }
-    ensures globals { IfOk result (λ command. (out-Command command).has_globals ≡ false) }
+    ensures { IfOk result (IsShapedAs (file_command name.now)) }
 {
     let command = on_file(alloc, name, about)?;
     explaining(alloc, command)
@@ -283,38 +224,28 @@ fn file_alone<'a>(alloc: Global, name: &'a str, about: &'a str) -> Result<Comman
 
 // The command, which says too whether it explains what is wrong.
 fn explaining<'a>(alloc: Global, command: Command<'a>) -> Result<Command<'a>, AllocError>
-    requires { (out-Command command).has_globals ≡ false }
-    ensures shape { IfOk result (λ new. shape_of new ≡ with_explain (shape_of command.entry)) }
-    ensures globals { IfOk result (λ new. (out-Command new).has_globals ≡ false) }
+    ensures { IfOk result (IsReshaped with_explain command.entry) }
 {
-    let explain = flag_of(
-        alloc,
-        "explain",
+    let explain = flag_of(alloc, "explain").help(
         "Explains what is wrong, and where [default: on a terminal]",
     );
-    let plain = flag_of(alloc, "plain", "Explains nothing, on a terminal too");
-    command.arg(explain)?.arg(plain)
+    let plain = flag_of(alloc, "plain").help("Explains nothing, on a terminal too");
+    command.args(vec![in alloc; explain, plain]?)
 }
 
 // The command, which says too which threads may be left at the end.
 fn ending<'a>(alloc: Global, command: Command<'a>) -> Result<Command<'a>, AllocError>
-    requires { (out-Command command).has_globals ≡ false }
-    ensures shape { IfOk result (λ new. shape_of new ≡ with_end (shape_of command.entry)) }
-    ensures globals { IfOk result (λ new. (out-Command new).has_globals ≡ false) }
+    ensures { IfOk result (IsReshaped with_end command.entry) }
 {
-    let strict = flag_of(
-        alloc,
-        "strict",
+    let strict = flag_of(alloc, "strict").help(
         "Ends with status 6 where a thread is left waiting, or ended at a fault",
     );
-    let servers = servers(alloc);
-    command.arg(strict)?.arg(servers)
+    command.args(vec![in alloc; strict, servers(alloc)]?)
 }
 
 // A command on a file.
 fn on_file<'a>(alloc: Global, name: &'a str, about: &'a str) -> Result<Command<'a>, AllocError>
-    ensures shape { IfOk result (λ command. shape_of command ≡ command_of name.now (file_rule (codes "FILE") ∷ [])) }
-    ensures globals { IfOk result (λ command. (out-Command command).has_globals ≡ false) }
+    ensures { IfOk result (IsShapedAs (command_of name.now (file_rule (codes "FILE") ∷ []))) }
 {
     let file = file(alloc, "FILE");
     Command::new(alloc, name).about(about).arg(file)
@@ -322,126 +253,85 @@ fn on_file<'a>(alloc: Global, name: &'a str, about: &'a str) -> Result<Command<'
 
 // The name of a file, which must be given.
 fn file<'a>(alloc: Global, name: &'a str) -> Arg<'a>
-    ensures rule { rule_of result ≡ file_rule name.now }
-    ensures global { result.global ≡ false }
+    ensures { FollowsRule (file_rule name.now) result }
 {
     Arg::new(alloc, name).required(true).action(ArgAction::Set)
 }
 
 // A flag.
-fn flag_of<'a>(alloc: Global, name: &'a str, help: &'a str) -> Arg<'a>
-    ensures rule { rule_of result ≡ flag_rule name.now }
-    ensures global { result.global ≡ false }
+fn flag_of<'a>(alloc: Global, name: &'a str) -> Arg<'a>
+    ensures { FollowsRule (flag_rule name.now) result }
 {
     Arg::new(alloc, name)
         .long(name)
         .action(ArgAction::SetTrue)
         .value_parser(value_parser!(bool))
-        .help(help)
 }
 
 // An option that takes a value.
-fn option<'a>(alloc: Global, name: &'a str, value: &'a str, help: &'a str) -> Arg<'a>
-    ensures rule { rule_of result ≡ option_rule name.now }
-    ensures global { result.global ≡ false }
+fn option<'a>(alloc: Global, name: &'a str, value: &'a str) -> Arg<'a>
+    ensures { FollowsRule (option_rule name.now) result }
 {
     Arg::new(alloc, name)
         .long(name)
         .value_name(value)
         .action(ArgAction::Set)
-        .help(help)
-}
-
-// An option that may be given again, each time with a value.
-fn list<'a>(alloc: Global, name: &'a str, value: &'a str, help: &'a str) -> Arg<'a>
-    ensures rule { rule_of result ≡ list_rule name.now }
-    ensures global { result.global ≡ false }
-{
-    option(alloc, name, value, help).action(ArgAction::Append)
 }
 
 // An option that counts steps or items.
-fn count<'a>(alloc: Global, name: &'a str, value: &'a str, help: &'a str) -> Arg<'a>
-    ensures rule { rule_of result ≡ count_rule name.now }
-    ensures global { result.global ≡ false }
+fn count<'a>(alloc: Global, name: &'a str, value: &'a str) -> Arg<'a>
+    ensures { FollowsRule (count_rule name.now) result }
 {
-    option(alloc, name, value, help).value_parser(value_parser!(u64).range(1..=MOST))
+    option(alloc, name, value).value_parser(value_parser!(u64).range(1..=MOST))
 }
 
 // The option that names functions of servers.
 fn servers<'a>(alloc: Global) -> Arg<'a>
-    ensures rule { rule_of result ≡ list_rule (codes "servers") }
-    ensures global { result.global ≡ false }
+    ensures { FollowsRule (list_rule (codes "servers")) result }
 {
-    list(
-        alloc,
-        "servers",
-        "F",
+    option(alloc, "servers", "F").action(ArgAction::Append).help(
         "Lets threads that began with function F wait; may be given again",
     )
 }
 
 // The option that asks for the schedule of a run.
 fn record<'a>(alloc: Global) -> Arg<'a>
-    ensures rule { rule_of result ≡ option_rule (codes "record") }
-    ensures global { result.global ≡ false }
+    ensures { FollowsRule (option_rule (codes "record")) result }
 {
-    option(alloc, "record", "FILE", "Saves the schedule of the run")
+    option(alloc, "record", "FILE").help("Saves the schedule of the run")
 }
 
 // The option that says how many runs are made.
 fn runs<'a>(alloc: Global) -> Arg<'a>
-    ensures rule { rule_of result ≡ runs_rule (codes "runs") }
-    ensures global { result.global ≡ false }
+    ensures { FollowsRule (runs_rule (codes "runs")) result }
 {
-    option(
-        alloc,
-        "runs",
-        "N",
-        "How many runs, 1 to 1000000 [default: 100]",
-    )
-    .value_parser(value_parser!(u64).range(1..=MOST_RUNS))
+    option(alloc, "runs", "N").value_parser(value_parser!(u64).range(1..=MOST_RUNS))
 }
 
 // The option that says how many workers there are.
-fn workers<'a>(alloc: Global, help: &'a str) -> Arg<'a>
-    ensures rule { rule_of result ≡ workers_rule (codes "workers") }
-    ensures global { result.global ≡ false }
+fn workers<'a>(alloc: Global) -> Arg<'a>
+    ensures { FollowsRule (workers_rule (codes "workers")) result }
 {
-    option(alloc, "workers", "N", help).value_parser(value_parser!(u64).range(1..=MOST_WORKERS))
+    option(alloc, "workers", "N").value_parser(value_parser!(u64).range(1..=MOST_WORKERS))
 }
 
 // The option that gives the depth of priorities.
 fn priority<'a>(alloc: Global) -> Arg<'a>
-    ensures rule { rule_of result ≡ depth_rule (codes "priority") }
-    ensures global { result.global ≡ false }
+    ensures { FollowsRule (depth_rule (codes "priority")) result }
 {
-    option(
-        alloc,
-        "priority",
-        "D",
-        "Gives the turns by priorities, which are drawn and change at D - 1 points, 1 to 64",
-    )
-    .value_parser(value_parser!(u64).range(1..=MOST_DEPTH))
+    option(alloc, "priority", "D").value_parser(value_parser!(u64).range(1..=MOST_DEPTH))
 }
 
 // The option that asks for reports.
 fn watch<'a>(alloc: Global) -> Arg<'a>
-    ensures rule { rule_of result ≡ count_rule (codes "watch") }
-    ensures global { result.global ≡ false }
+    ensures { FollowsRule (count_rule (codes "watch")) result }
 {
-    count(
-        alloc,
-        "watch",
-        "K",
-        "Reports after every K items of the schedule, 1 to 1000000000",
-    )
+    count(alloc, "watch", "K").help("Reports after every K items of the schedule, 1 to 1000000000")
 }
 
 // The option that gives the seed.
-fn seed<'a>(alloc: Global, help: &'a str) -> Arg<'a>
-    ensures rule { rule_of result ≡ any_rule (codes "seed") }
-    ensures global { result.global ≡ false }
+fn seed<'a>(alloc: Global) -> Arg<'a>
+    ensures { FollowsRule (any_rule (codes "seed")) result }
 {
-    option(alloc, "seed", "S", help).value_parser(value_parser!(u64))
+    option(alloc, "seed", "S").value_parser(value_parser!(u64))
 }
