@@ -5,7 +5,9 @@ import pathlib
 import re
 
 TESTS = pathlib.Path(__file__).resolve().parent.parent.parent / "crates" / "cml_program_tests" / "src"
-TOKEN = re.compile(r'\s+|//[^\n]*|("(?:[^"\\]|\\.)*"|[A-Za-z_]\w*(?:::\w+)*|[\d_]+|\S)', re.S)
+TOKEN = re.compile(r'\s+|//[^\n]*|("(?:[^"\\]|\\.)*"|[A-Za-z_]\w*(?:::\w+)*|[\d_]+|\.\.|\S)', re.S)
+KIND = r"(?:Case|Long|Kind|Repeated)"
+TABLE = re.compile(rf"^(?:pub )?const (\w+): (?:&\[{KIND}\]|{KIND}|\[{KIND}; \w+\]) =\s*(.*?);\n(?=\n|\Z)", re.M | re.S)
 
 Case = collections.namedtuple("Case", "name words files input output errors status saved")
 NOTHING = {"words": "trace", "files": (), "input": "", "errors": "", "saved": ""}
@@ -38,7 +40,10 @@ class Reader:
         """The values up to this token, or pairs of a field and its value."""
         values = []
         while self.tokens[0] != end:
-            if self.tokens[1] == ":":
+            if self.tokens[0] == "..":
+                self.take()
+                values = [*self.value()[1].items(), *values]
+            elif self.tokens[1] == ":":
                 field = self.take()
                 self.take(":")
                 values.append((field, self.value()))
@@ -78,29 +83,46 @@ def whole(parts):
             text += of[0] * of[1]
         elif kind == "Part::Each":
             text += "".join(f"{of[0]} {number}\n" for number in range(of[1]))
-        else:
+        elif kind == "Part::Functions":
             text += "".join(f" (fn f{number} ())" for number in range(1, of[0] + 1))
+        else:
+            text += "(fn main ()" + " (yield)" * of[0] + ")"
     return text
 
 
+def spelled(kind, fields):
+    """The fields of a case with its input and output as texts."""
+    it = dict(fields)
+    if kind == "Kind":
+        made = "".join(f"{it['word']} {number}\n" for number in range(it["most"]))
+        return {"name": it["name"], "input": it["before"] + it["line"] * (it["most"] + 1), "output": it["answer"] + made + "refused 10 full\n", "status": 0}
+    if kind == "Repeated":
+        around = it["open"] * it["times"] + it["inside"] + it["close"] * it["times"]
+        return {"name": it["name"], "input": it["before"] + around + it["after"], "output": it["output"], "status": it["status"]}
+    it.pop("shows", None)
+    lines = it.pop("lines", ())
+    it["input"] = "".join(f"{line}\n" for line, _ in lines) or it.get("input", "")
+    it["output"] = "".join(f"{answer}\n" for _, answer in lines if answer) or it.get("output", "")
+    for field in ("input", "output", "saved"):
+        if isinstance(it.get(field), list):
+            it[field] = whole(it[field])
+    return it
+
+
 def cases_of(module):
-    """The cases of each table of the module."""
-    text = (TESTS / f"{module}.rt").read_text(encoding="utf-8")
-    names = {**constants((TESTS / "script_run.rt").read_text(encoding="utf-8")), **constants(text)}
-    found = []
-    for name, table in re.findall(r"^const (\w+): (?:&\[(?:Case|Long)\]|(?:Case|Long)|\[(?:Case|Long); \w+\]) =\s*(.*?);\n(?=\n|\Z)", text, re.M | re.S):
-        names[name] = Reader(table, names).value()
-        found += names[name] if isinstance(names[name], list) else []
+    """The cases of each table of the module. They may name what stands in `script_run` and in `cases`."""
+    names, found = {}, []
+    for source in dict.fromkeys(("script_run", "cases", module)):
+        text = (TESTS / f"{source}.rt").read_text(encoding="utf-8")
+        names.update(constants(text))
+        for name, table in TABLE.findall(text):
+            names[name] = Reader(table, names).value()
+            if source == module and isinstance(names[name], list):
+                found += names[name]
     made = []
     for kind, fields in (it for it in found if isinstance(it, tuple)):
-        fields.pop("shows", None)
-        lines = fields.pop("lines", ())
-        fields["input"] = "".join(f"{line}\n" for line, _ in lines) or fields.get("input", "")
-        fields["output"] = "".join(f"{answer}\n" for _, answer in lines if answer) or fields.get("output", "")
-        for field in ("input", "output", "saved"):
-            if isinstance(fields.get(field), list):
-                fields[field] = whole(fields[field])
-        made.append(Case(**{**NOTHING, **fields, "files": tuple(map(tuple, fields.get("files", ())))}))
+        case = spelled(kind, fields)
+        made.append(Case(**{**NOTHING, **case, "files": tuple(map(tuple, case.get("files", ())))}))
     return made
 
 

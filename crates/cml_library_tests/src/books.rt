@@ -10,7 +10,8 @@ use cml_value::{
 };
 use std::process::Abort;
 
-const EXCHANGE: Meet = Meet::Pair {
+/// Thread 1 sends to thread 0.
+pub const EXCHANGE: Meet = Meet::Pair {
     head: Tid(1),
     head_leaf: 0,
     other: Tid(0),
@@ -22,8 +23,8 @@ const SENDER: Place = Place {
     leaf: 0,
 };
 
-// Two swaps: the lower thread begins the row.
-const SWAP: Meet = Meet::Pair {
+/// Two swaps: the lower thread begins the row.
+pub const SWAP: Meet = Meet::Pair {
     head: Tid(0),
     head_leaf: 0,
     other: Tid(1),

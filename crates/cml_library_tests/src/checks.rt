@@ -1,6 +1,6 @@
 //! What the forms of a script are checked as.
 
-use crate::making::MEMORY;
+use crate::making::{ADDITION, CANCELLED, MEMORY, SWAPPED};
 use cml_check::{CheckFault, CheckKind, Prog, check};
 use cml_text::read;
 use std::process::Abort;
@@ -8,14 +8,8 @@ use std::process::Abort;
 // Scripts that are programs, and the number of parameters of each function.
 const PROGRAMS: [(&str, &[u32]); 13] = [
     ("(fn main ())", &[0]),
-    (
-        "(fn add (a b) (return (+ a b))) (fn give (c) (sync (send c 41))) (fn main () (let c (chan)) (spawn give c) (let x (sync (wrap (recv c) add 1))) (print x))",
-        &[2, 1, 0],
-    ),
-    (
-        "(fn watch (n) (sync n) (print \"cancelled\")) (fn branch (c n) (spawn watch n) (return (recv c))) (fn main () (let c (chan)) (let x (sync (choose (withnack branch c) (always 7)))) (print x))",
-        &[1, 2, 0],
-    ),
+    (ADDITION, &[2, 1, 0]),
+    (CANCELLED, &[1, 2, 0]),
     (
         "(fn add (m) (let x (sync (mtake m))) (mput m (+ x 1))) (fn main () (let m (mvar 0)) (let a (spawn add m)) (let b (spawn add m)) (sync (join a)) (sync (join b)) (let x (sync (mget m))) (print x))",
         &[1, 0],
@@ -39,10 +33,7 @@ const PROGRAMS: [(&str, &[u32]); 13] = [
         "(fn main () (sync (choose never (iget 1) (mtake 1) (mget 1) (mswap 1 2) (mailrecv 1) (portrecv 1) (join 1) (at 1) (after 1) (guard g))) (print (not (< 1 (- 2 (* 3 4))))) (print (= (fst unit) (snd false)))) (fn g () (return (choose)))",
         &[0, 0],
     ),
-    (
-        "(fn other (s) (let y (sync (swap s 2))) (print y)) (fn main () (let s (swapchan)) (spawn other s) (let x (sync (swap s 1))) (print x))",
-        &[1, 0],
-    ),
+    (SWAPPED, &[1, 0]),
     (
         "(fn main () (swapchan) (sync (choose (swap 1 2) (swap unit never) (after 3))))",
         &[0],

@@ -2,43 +2,34 @@
 
 ghost use Rattle.cml_hub.specs.Kept.{IsBudget, IsWatch, NoneOut};
 
-use crate::making::{MEMORY, program_of};
+use crate::books::{EXCHANGE, SWAP};
+use crate::making::{ADDITION, CANCELLED, MEMORY, SWAPPED, program_of};
 use cml_hub::{
     End, First, GiveFault, Hub, Item, Next, Plan, ReplayFault, Script, matches_program,
     read_schedule,
 };
 use cml_monitor::render;
-use cml_scan::{Light, Meet};
+use cml_scan::Light;
 use cml_step::{Ran, slice};
 use cml_value::Tid;
 use std::process::Abort;
 use std::rt::HostRuntime;
 
-// One thread sends to another, through a wrap.
-const ADDITION: &str =
-    "(fn add (a b) (return (+ a b))) (fn give (c) (sync (send c 41))) (fn main () (let c (chan)) (spawn give c) (let x (sync (wrap (recv c) add 1))) (print x))";
-
 const ADDED: &str =
     "schedule 2 1000000 3 6\nturn 0\nturn 0\nturn 1\nturn 0\ncommit 1 0 0 0\nturn 1\nturn 0\nturn 0\nend\n";
 
 // The same except for the number that is sent: its threads begin with the same machines.
-const OTHER_ADDITION: &str =
-    "(fn add (a b) (return (+ a b))) (fn give (c) (sync (send c 40))) (fn main () (let c (chan)) (spawn give c) (let x (sync (wrap (recv c) add 1))) (print x))";
-
-// A branch whose nack another thread waits for.
-const CANCELLED: &str =
-    "(fn watch (n) (sync n) (print \"cancelled\")) (fn branch (c n) (spawn watch n) (return (recv c))) (fn main () (let c (chan)) (let x (sync (choose (withnack branch c) (always 7)))) (print x))";
-
-// Two threads exchange values.
-const SWAPPED: &str =
-    "(fn other (s) (let y (sync (swap s 2))) (print y)) (fn main () (let s (swapchan)) (spawn other s) (let x (sync (swap s 1))) (print x))";
+const OTHER_ADDITION: &str = "(fn add (a b) (return (+ a b))) \
+     (fn give (c) (sync (send c 40))) \
+     (fn main () (let c (chan)) (spawn give c) (let x (sync (wrap (recv c) add 1))) (print x))";
 
 const EXCHANGED: &str =
     "schedule 2 1000000 2 6\nturn 0\nturn 0\nturn 1\nturn 0\nswap 0 0 1 0\nturn 0\nturn 1\nturn 0\nturn 1\nend\n";
 
 // Two threads want to receive, and one sends.
-const WANTED_TWICE: &str =
-    "(fn give (c) (sync (send c 1))) (fn get (c n) (let x (sync (recv c))) (print n)) (fn main () (let c (chan)) (spawn get c 10) (spawn get c 20) (spawn give c))";
+const WANTED_TWICE: &str = "(fn give (c) (sync (send c 1))) \
+     (fn get (c n) (let x (sync (recv c))) (print n)) \
+     (fn main () (let c (chan)) (spawn get c 10) (spawn get c 20) (spawn give c))";
 
 // A thread waits for 10 ticks.
 const TIMED: &str = "(fn main () (sync (after 10)) (let t (now)) (print t))";
@@ -215,28 +206,14 @@ const CASES: [Case; 12] = [
 // A script, a schedule of it, an item in place of another, and whether it is allowed there. The items are numbered from 1.
 const CHANGES: [(&str, &str, usize, Item, bool); 8] = [
     (ADDITION, ADDED, 2, Item::Turn(Tid(1)), false),
-    (ADDITION, ADDED, 5, Item::Exchange(SENT), false),
+    (ADDITION, ADDED, 5, Item::Exchange(EXCHANGE), false),
     (ADDITION, ADDED, 5, Item::Meet(SWAP), false),
     (ADDITION, ADDED, 8, Item::Turn(Tid(1)), false),
     (SWAPPED, EXCHANGED, 5, Item::Meet(SWAP), true),
-    (SWAPPED, EXCHANGED, 5, Item::Exchange(SENT), false),
+    (SWAPPED, EXCHANGED, 5, Item::Exchange(EXCHANGE), false),
     (TIMED, TICKED, 2, Item::Clock(9), false),
     (TIMED, TICKED, 1, Item::Clock(10), false),
 ];
-
-const SENT: Meet = Meet::Pair {
-    head: Tid(1),
-    head_leaf: 0,
-    other: Tid(0),
-    other_leaf: 0,
-};
-
-const SWAP: Meet = Meet::Pair {
-    head: Tid(0),
-    head_leaf: 0,
-    other: Tid(1),
-    other_leaf: 0,
-};
 
 // The number, which is one that a budget or a watch may be.
 fn in_range(rt: &impl Abort, number: u64) -> u64
@@ -541,8 +518,8 @@ fn a_schedule_says_the_size_of_its_program(rt: HostRuntime) {
 }
 
 // Thread 1 prints, and thread 2 is at fault.
-const FAMILY: &str =
-    "(fn child (a b) (print (+ a b))) (fn main () (spawn child 1 2) (let x (spawn child unit 4)) (sync (join x)))";
+const FAMILY: &str = "(fn child (a b) (print (+ a b))) \
+     (fn main () (spawn child 1 2) (let x (spawn child unit 4)) (sync (join x)))";
 
 // The number of the function with which the thread began, and its values.
 fn origin_of(rt: &(impl Abort + AllocGlobal), hub: &Hub, thread: u32) -> String {

@@ -8,7 +8,7 @@ ghost use Rattle.cml_step.specs.{Agrees.{value_agrees, base_agrees, event_agrees
 ghost use Rattle.cml_step.specs.{AnswerViews.{plain_answer}, AskViews.{plain_ask}, Machines.{machine_term, Fits}};
 ghost use Rattle.cml_step.specs.Answers as answers;
 
-use crate::making::{MEMORY, make, program_of};
+use crate::making::{ADDITION, CANCELLED, MEMORY, SWAPPED, make, program_of};
 use cml_check::Prog;
 use cml_step::{Answer, Ask, Machine, Undo, run_slice, slice};
 use cml_value::{
@@ -18,21 +18,11 @@ use cml_value::{
 use std::alloc::Global;
 use std::process::Abort;
 
-// A run takes turns of the threads 0, 0, 1 and 0 up to the commit, with 1, 1, 2 and 2 steps, and then of 1, 0 and 0, with 2, 4 and 1.
-const ADDITION: &str =
-    "(fn add (a b) (return (+ a b))) (fn give (c) (sync (send c 41))) (fn main () (let c (chan)) (spawn give c) (let x (sync (wrap (recv c) add 1))) (print x))";
-
-const CANCELLED: &str =
-    "(fn watch (n) (sync n) (print \"cancelled\")) (fn branch (c n) (spawn watch n) (return (recv c))) (fn main () (let c (chan)) (let x (sync (choose (withnack branch c) (always 7)))) (print x))";
-
-// Two threads that exchange values.
-const SWAPPED: &str =
-    "(fn other (s) (let y (sync (swap s 2))) (print y)) (fn main () (let s (swapchan)) (spawn other s) (let x (sync (swap s 1))) (print x))";
-
 // A script, and for each slice of its thread 0 how many steps it takes and what it asks; after `then` the same of the thread that it
 // spawns. That is thread 1, each new object is number 0, and the tick is 5. A synchronization is committed by the last leaf of its
 // group, which gets 41 where it receives something; one without leaves waits for ever. A thread is watched for six slices.
 const SCRIPTS: [(&str, &str); 77] = [
+    // a run of it takes turns of the threads 0, 0, 1 and 0 up to the commit, with 1, 1, 2 and 2 steps, and then of 1, 0 and 0, with 2, 4 and 1.
     (
         ADDITION,
         "1 chan, 1 spawn 1, 2 sync, 4 print 42, 1 end then 2 sync, 2 end",

@@ -19,6 +19,20 @@ use std::process::Abort;
 
 pub const MEMORY: &str = "memory";
 
+/// One thread sends to another, through a wrap.
+pub const ADDITION: &str = "(fn add (a b) (return (+ a b))) \
+     (fn give (c) (sync (send c 41))) \
+     (fn main () (let c (chan)) (spawn give c) (let x (sync (wrap (recv c) add 1))) (print x))";
+
+/// Two threads exchange values.
+pub const SWAPPED: &str = "(fn other (s) (let y (sync (swap s 2))) (print y)) \
+     (fn main () (let s (swapchan)) (spawn other s) (let x (sync (swap s 1))) (print x))";
+
+/// A branch whose nack another thread waits for.
+pub const CANCELLED: &str = "(fn watch (n) (sync n) (print \"cancelled\")) \
+     (fn branch (c n) (spawn watch n) (return (recv c))) \
+     (fn main () (let c (chan)) (let x (sync (choose (withnack branch c) (always 7)))) (print x))";
+
 /// What was made and stands there.
 #[derive(Drop)]
 pub struct Made {

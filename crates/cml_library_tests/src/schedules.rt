@@ -1,5 +1,6 @@
 //! What schedules are written as, read as and refused.
 
+use crate::books::EXCHANGE;
 use crate::making::MEMORY;
 use cml_check::Size;
 use cml_scan::Meet;
@@ -29,12 +30,7 @@ const SENDING: [Item; 8] = [
     Item::Turn(Tid(0)),
     Item::Turn(Tid(1)),
     Item::Turn(Tid(0)),
-    Item::Meet(Meet::Pair {
-        head: Tid(1),
-        head_leaf: 0,
-        other: Tid(0),
-        other_leaf: 0,
-    }),
+    Item::Meet(EXCHANGE),
     Item::Turn(Tid(1)),
     Item::Turn(Tid(0)),
     Item::Turn(Tid(0)),

@@ -2,13 +2,10 @@
 //! apart from the program has worked out.
 
 use crate::memory_store::MemoryStore;
-use crate::run::{left_by, push_line};
+use crate::run::{Runtime, left_by, push_line};
 use crate::script_run::{filled, lies};
 use std::alloc::{AllocError, Global};
-use std::process::Abort;
-use std::sync::Wait;
 use std::test::Fail;
-use std::thread::Threads;
 
 // A session: the arguments and the files, what is typed and said, and what comes of it.
 struct Session {
@@ -453,25 +450,13 @@ fn typed_and_said(alloc: Global, parts: &[&str]) -> Result<(String, String), All
 }
 
 // The program goes through the session as it is written.
-fn goes_so(
-    rt: &(impl Abort + Threads + Wait + Sync),
-    alloc: Global,
-    session: &Session,
-) -> Result<(), Fail> {
-    let (typed, said) = typed_and_said(alloc, session.parts)?;
-    let mut store = filled(rt, alloc, session.files);
-    let left = left_by(rt, alloc, session.words, typed.as_str(), &mut store)?;
+fn goes_so(rt: &impl Runtime, session: &Session) -> Result<(), Fail> {
+    let (typed, said) = typed_and_said(rt.alloc(), session.parts)?;
+    let mut store = filled(rt, session.files);
+    let left = left_by(rt, session.words, typed.as_str(), &mut store)?;
     let name = session.name;
-    assert!(rt;
-        left.output.as_slice() == said.as_bytes(),
-        "output of {name}"
-    );
-    assert!(rt;
-        left.errors.as_slice() == session.errors.as_bytes(),
-        "errors of {name}"
-    );
-    assert!(rt; left.status == session.status, "status of {name}");
-    lies(rt, alloc, name, session.saved, &mut store)?;
+    left.is(rt, name, (said.as_str(), session.errors, session.status));
+    lies(rt, name, session.saved, &mut store)?;
     drop(left);
     drop(store);
     drop(said);
@@ -481,13 +466,13 @@ fn goes_so(
 
 #[test]
 fn goes_into_a_deadlock_by_hand_and_out_of_it(rt: HostRuntime) -> Result<(), Fail> {
-    goes_so(&rt, rt.alloc(), &AROUND)
+    goes_so(&rt, &AROUND)
 }
 
 #[test]
 fn goes_through_short_runs_by_hand(rt: HostRuntime) -> Result<(), Fail> {
     for session in SHORT {
-        goes_so(&rt, rt.alloc(), session)?;
+        goes_so(&rt, session)?;
     }
     Ok(())
 }

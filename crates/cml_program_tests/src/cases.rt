@@ -3,6 +3,23 @@
 use crate::run::{Case, Long, Part, all_hold, each_holds};
 use std::test::Fail;
 
+/// The first exchange, which is an example too.
+pub const FIRST_EXCHANGE: Case = Case {
+    name: "first-exchange",
+    shows: "A send and a receive on one channel meet: the receiver gets the value, the sender unit.",
+    lines: &[
+        ("spawn", "thread 0"),
+        ("spawn", "thread 1"),
+        ("chan", "chan 0"),
+        ("sync 0 (send 0 5)", "ok"),
+        ("sync 1 (recv 0)", "ok"),
+        ("rows", "rows 1\nrow 0 0 1 0"),
+        ("commit 0 0 1 0", "resume 0 ()\nresume 1 5\nfired"),
+        ("rows", "rows 0"),
+    ],
+    status: 0,
+};
+
 const MEETINGS: &[Case] = &[
     Case {
         name: "bad-line",
@@ -16,21 +33,7 @@ const MEETINGS: &[Case] = &[
         lines: &[],
         status: 0,
     },
-    Case {
-        name: "first-exchange",
-        shows: "A send and a receive on one channel meet: the receiver gets the value, the sender unit.",
-        lines: &[
-            ("spawn", "thread 0"),
-            ("spawn", "thread 1"),
-            ("chan", "chan 0"),
-            ("sync 0 (send 0 5)", "ok"),
-            ("sync 1 (recv 0)", "ok"),
-            ("rows", "rows 1\nrow 0 0 1 0"),
-            ("commit 0 0 1 0", "resume 0 ()\nresume 1 5\nfired"),
-            ("rows", "rows 0"),
-        ],
-        status: 0,
-    },
+    FIRST_EXCHANGE,
     Case {
         name: "nack-stays-lit",
         shows: "A nack that has fired stays so: who waits for it later can go on too.",
@@ -600,30 +603,30 @@ const UNENDED: &[Long] = &[Long {
 
 #[test]
 fn meetings(rt: HostRuntime) -> Result<(), Fail> {
-    all_hold(&rt, rt.alloc(), MEETINGS)
+    all_hold(&rt, MEETINGS)
 }
 
 #[test]
 fn values(rt: HostRuntime) -> Result<(), Fail> {
-    all_hold(&rt, rt.alloc(), VALUES)
+    all_hold(&rt, VALUES)
 }
 
 #[test]
 fn objects(rt: HostRuntime) -> Result<(), Fail> {
-    all_hold(&rt, rt.alloc(), OBJECTS)
+    all_hold(&rt, OBJECTS)
 }
 
 #[test]
 fn swaps(rt: HostRuntime) -> Result<(), Fail> {
-    all_hold(&rt, rt.alloc(), SWAPS)
+    all_hold(&rt, SWAPS)
 }
 
 #[test]
 fn times_and_shapes(rt: HostRuntime) -> Result<(), Fail> {
-    all_hold(&rt, rt.alloc(), TIMES_AND_SHAPES)
+    all_hold(&rt, TIMES_AND_SHAPES)
 }
 
 #[test]
 fn a_last_line_without_an_end(rt: HostRuntime) -> Result<(), Fail> {
-    each_holds(&rt, rt.alloc(), UNENDED)
+    each_holds(&rt, UNENDED)
 }

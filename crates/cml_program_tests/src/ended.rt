@@ -1,6 +1,6 @@
 //! How runs end: what is said of it, whole, and the status by `--strict`.
 
-use crate::script_run::{Case, all_come_out};
+use crate::script_run::{Case, PLAIN, all_come_out};
 use std::test::Fail;
 
 // Two threads that want the same two locks, in opposite order, and a third that waits for the end of the first.
@@ -51,96 +51,82 @@ const ENDLESS: &str = "(fn main ()
   (while true (yield)))
 ";
 
+// The locks, which three threads wait for.
+const OF_LOCKS: Case = Case {
+    files: &[("a.cml", LOCKS)],
+    output: "end quiet pending 3\n",
+    ..PLAIN
+};
+
 const ENDED: &[Case] = &[
     Case {
         name: "a deadlock explained",
         words: "run a.cml --explain",
-        files: &[("a.cml", LOCKS)],
-        output: "end quiet pending 3\n",
         errors: LOCKED,
-        status: 0,
-        saved: &[],
+        ..OF_LOCKS
     },
     Case {
         name: "a deadlock by workers, recorded and judged strictly",
         words: "run a.cml --workers 4 --explain --strict --watch 1000 --record T",
-        files: &[("a.cml", LOCKS)],
-        output: "end quiet pending 3\n",
         errors: LOCKED,
         status: 6,
-        saved: &[],
+        ..OF_LOCKS
     },
     Case {
         name: "a deadlock with plain",
         words: "run a.cml --explain --plain --strict",
-        files: &[("a.cml", LOCKS)],
-        output: "end quiet pending 3\n",
-        errors: "",
         status: 6,
-        saved: &[],
+        ..OF_LOCKS
     },
     Case {
         name: "all that wait are servers",
         words: "run a.cml --strict --servers both --servers main",
-        files: &[("a.cml", LOCKS)],
-        output: "end quiet pending 3\n",
-        errors: "",
-        status: 0,
-        saved: &[],
+        ..OF_LOCKS
     },
     Case {
         name: "one that waits is no server",
         words: "run a.cml --strict --servers both",
-        files: &[("a.cml", LOCKS)],
-        output: "end quiet pending 3\n",
-        errors: "",
         status: 6,
-        saved: &[],
+        ..OF_LOCKS
     },
     Case {
         name: "a server alone waits",
         words: "run a.cml --strict --servers server",
         files: &[("a.cml", ALONE)],
         output: "end quiet pending 1\n",
-        errors: "",
-        status: 0,
-        saved: &[],
+        ..PLAIN
     },
     Case {
         name: "a server alone is not excused by another name",
         words: "run a.cml --strict --servers main",
         files: &[("a.cml", ALONE)],
         output: "end quiet pending 1\n",
-        errors: "",
         status: 6,
-        saved: &[],
+        ..PLAIN
     },
     Case {
         name: "servers excuse no fault",
         words: "run a.cml --strict --servers server --servers client",
         files: &[("a.cml", SERVED)],
         output: "thread 2 fault kind\nend quiet pending 1\n",
-        errors: "",
         status: 6,
-        saved: &[],
+        ..PLAIN
     },
     Case {
         name: "a server that is no function",
         words: "run a.cml --strict --servers both --servers bth --servers c --explain",
         files: &[("a.cml", LOCKS)],
-        output: "",
         errors: "no function bth\n",
         status: 1,
-        saved: &[],
+        ..PLAIN
     },
     Case {
         name: "a server that is no function, in a replay",
         words: "replay a.cml S --servers bth",
         files: &[("a.cml", LOCKS)],
-        output: "",
         errors: "no function bth\n",
         status: 1,
-        saved: &[],
+        ..PLAIN
     },
     Case {
         name: "the budget explained and judged strictly",
@@ -151,7 +137,7 @@ const ENDED: &[Case] = &[
   thread 0 main at a.cml:2:3 runs, 3 turns
 ",
         status: 4,
-        saved: &[],
+        ..PLAIN
     },
     Case {
         name: "a schedule that stops early explained and judged strictly",
@@ -161,21 +147,18 @@ const ENDED: &[Case] = &[
         errors: "1 thread runs, and the schedule ends after item 1: turn 0
   thread 0 main at a.cml:8:3 runs, 1 turn
 ",
-        status: 0,
-        saved: &[],
+        ..PLAIN
     },
     Case {
         name: "where no thread is left nothing is said",
         words: "run a.cml --explain --strict",
         files: &[("a.cml", "(fn main () (print 1))")],
         output: "1\nend quiet pending 0\n",
-        errors: "",
-        status: 0,
-        saved: &[],
+        ..PLAIN
     },
 ];
 
 #[test]
 fn ends_are_explained_and_judged(rt: HostRuntime) -> Result<(), Fail> {
-    all_come_out(&rt, rt.alloc(), ENDED)
+    all_come_out(&rt, ENDED)
 }

@@ -1,5 +1,6 @@
 //! The traces of the folder `examples`, each with the text beside it.
 
+use crate::cases::FIRST_EXCHANGE;
 use crate::run::{Case, all_hold};
 use std::test::Fail;
 
@@ -62,21 +63,7 @@ const EXCHANGES: &[Case] = &[
         ],
         status: 0,
     },
-    Case {
-        name: "first-exchange",
-        shows: "A send and a receive on one channel meet: the receiver gets the value, the sender unit.",
-        lines: &[
-            ("spawn", "thread 0"),
-            ("spawn", "thread 1"),
-            ("chan", "chan 0"),
-            ("sync 0 (send 0 5)", "ok"),
-            ("sync 1 (recv 0)", "ok"),
-            ("rows", "rows 1\nrow 0 0 1 0"),
-            ("commit 0 0 1 0", "resume 0 ()\nresume 1 5\nfired"),
-            ("rows", "rows 0"),
-        ],
-        status: 0,
-    },
+    FIRST_EXCHANGE,
     Case {
         name: "no-self-match",
         shows: "The offers of one thread do not meet each other, those of two threads do.",
@@ -313,15 +300,15 @@ const SWAPS_AND_TIMES: &[Case] = &[
 
 #[test]
 fn exchanges(rt: HostRuntime) -> Result<(), Fail> {
-    all_hold(&rt, rt.alloc(), EXCHANGES)
+    all_hold(&rt, EXCHANGES)
 }
 
 #[test]
 fn objects(rt: HostRuntime) -> Result<(), Fail> {
-    all_hold(&rt, rt.alloc(), OBJECTS)
+    all_hold(&rt, OBJECTS)
 }
 
 #[test]
 fn swaps_and_times(rt: HostRuntime) -> Result<(), Fail> {
-    all_hold(&rt, rt.alloc(), SWAPS_AND_TIMES)
+    all_hold(&rt, SWAPS_AND_TIMES)
 }

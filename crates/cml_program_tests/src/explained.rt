@@ -2,15 +2,11 @@
 
 use crate::explained_cases::{BROKEN, Broken};
 use crate::memory_store::MemoryStore;
-use crate::run::{Left, words};
+use crate::run::{Runtime, left_on};
 use crate::script_run::filled;
-use cml_host::{Open, Store, run_command_counted};
-use cml_stream::Counting;
+use cml_host::Store;
 use std::alloc::{AllocError, Global};
-use std::process::Abort;
-use std::sync::Wait;
 use std::test::Fail;
-use std::thread::Threads;
 
 // A schedule that no script is asked for.
 const SCHEDULE: &str = "schedule 1 9\nend\n";
@@ -21,102 +17,101 @@ a.cml:1:1048577: the text is too long
   = a text has at most 1048576 bytes
 ";
 
-// Arguments, whether the errors go to a terminal, and whether what is wrong is explained.
-const ASKED: &[(&str, bool, bool)] = &[
-    ("check a.cml", false, false),
-    ("check a.cml --explain", false, true),
-    ("check a.cml --plain", false, false),
-    ("check --explain a.cml --plain", false, false),
-    ("check --plain --explain a.cml", false, false),
-    ("check a.cml", true, true),
-    ("check a.cml --explain", true, true),
-    ("check a.cml --plain", true, false),
-    ("check a.cml --explain --plain", true, false),
-    ("run a.cml", false, false),
-    ("run a.cml --explain", false, true),
-    ("run a.cml --workers 4 --seed 7 --explain", false, true),
-    ("run a.cml --explain --plain", false, false),
-    ("run a.cml", true, true),
-    ("run a.cml --plain", true, false),
-    ("replay a.cml S", false, false),
-    ("replay a.cml S --explain", false, true),
-    ("replay a.cml S --plain --explain", false, false),
-    ("replay a.cml S", true, true),
-    ("replay a.cml S --plain", true, false),
-];
-
-// The same of `fmt`, which looks at the text alone.
-const PRINTED: &[(&str, bool, bool)] = &[
-    ("fmt a.cml", false, false),
-    ("fmt a.cml --explain", false, true),
-    ("fmt a.cml --plain --explain", false, false),
-    ("fmt a.cml", true, true),
-    ("fmt a.cml --plain", true, false),
-];
-
-/// What the program leaves that is run on this line of arguments and this input over the store, where its errors go to a terminal or not.
-pub fn left_on(
-    rt: &(impl Threads + Wait + Sync),
-    alloc: Global,
-    line: &str,
-    terminal: bool,
-    input: &str,
-    store: &mut MemoryStore,
-) -> Result<Left, AllocError> {
-    let words = words(alloc, line)?;
-    let mut input = input.as_bytes();
-    let (mut output, mut errors) = (Vec::new(alloc), Vec::new(alloc));
-    let status = run_command_counted(
-        rt,
-        alloc,
-        &Open,
-        words.as_slice(),
-        &mut Counting::new(&mut input),
-        &mut Counting::new(&mut output),
-        &mut Counting::new(&mut errors),
-        terminal,
-        store,
-    );
-    drop(words);
-    Ok(Left {
-        output,
-        errors,
-        status,
-    })
+/// Lines of arguments by which it is explained what is wrong, and lines by which it is not: where the errors go to a file, and to a terminal.
+pub struct Lines {
+    /// Those by which it is explained.
+    pub explained: &'static [&'static str],
+    /// Those by which it is not.
+    pub plain: &'static [&'static str],
+    /// Those by which it is explained on a terminal.
+    pub explained_on_terminal: &'static [&'static str],
+    /// Those by which it is not even there.
+    pub plain_on_terminal: &'static [&'static str],
 }
 
+impl Lines {
+    /// The lines, each with whether the errors go to a terminal, and whether it is explained what is wrong.
+    pub fn all(&self, alloc: Global) -> Result<Vec<(&'static str, bool, bool)>, AllocError> {
+        let mut all = Vec::new(alloc);
+        for (lines, terminal, explained) in [
+            (self.explained, false, true),
+            (self.plain, false, false),
+            (self.explained_on_terminal, true, true),
+            (self.plain_on_terminal, true, false),
+        ] {
+            for line in lines {
+                all.push((*line, terminal, explained))?;
+            }
+        }
+        Ok(all)
+    }
+}
+
+const ASKED: Lines = Lines {
+    explained: &[
+        "check a.cml --explain",
+        "run a.cml --explain",
+        "run a.cml --workers 4 --seed 7 --explain",
+        "replay a.cml S --explain",
+    ],
+    plain: &[
+        "check a.cml",
+        "check a.cml --plain",
+        "check --explain a.cml --plain",
+        "check --plain --explain a.cml",
+        "run a.cml",
+        "run a.cml --explain --plain",
+        "replay a.cml S",
+        "replay a.cml S --plain --explain",
+    ],
+    explained_on_terminal: &[
+        "check a.cml",
+        "check a.cml --explain",
+        "run a.cml",
+        "replay a.cml S",
+    ],
+    plain_on_terminal: &[
+        "check a.cml --plain",
+        "check a.cml --explain --plain",
+        "run a.cml --plain",
+        "replay a.cml S --plain",
+    ],
+};
+
+// The same of `fmt`, which looks at the text alone.
+const PRINTED: Lines = Lines {
+    explained: &["fmt a.cml --explain"],
+    plain: &["fmt a.cml", "fmt a.cml --plain --explain"],
+    explained_on_terminal: &["fmt a.cml"],
+    plain_on_terminal: &["fmt a.cml --plain"],
+};
+
 // The script is refused so on each of these lines of arguments.
-fn refused_on(
-    rt: &(impl Abort + Threads + Wait + Sync),
-    alloc: Global,
-    broken: &Broken,
-    asked: &[(&str, bool, bool)],
-) -> Result<(), Fail> {
-    let name = broken.name;
-    for &(line, terminal, explained) in asked {
-        let mut store = filled(rt, alloc, &[("a.cml", broken.text), ("S", SCHEDULE)]);
-        let left = left_on(rt, alloc, line, terminal, "", &mut store)?;
+fn refused_on(rt: &impl Runtime, broken: &Broken, asked: &Lines) -> Result<(), Fail> {
+    let alloc = rt.alloc();
+    let lines = asked.all(alloc)?;
+    for &(line, terminal, explained) in lines.as_slice() {
+        let mut store = filled(rt, &[("a.cml", broken.text), ("S", SCHEDULE)]);
+        let left = left_on(rt, line, terminal, "", &mut store)?;
         let (first, words) = (broken.line, if explained { broken.words } else { "" });
         let told = format!(in alloc; "{first}\n{words}")?;
-        assert!(rt; left.status == 2, "status of {name}, {line}");
-        assert!(rt; left.output.is_empty(), "output of {name}, {line}");
-        assert!(rt;
-            left.errors.as_slice() == told.as_bytes(),
-            "errors of {name}, {line}"
-        );
+        let name = format!(in alloc; "{}, {line}", broken.name)?;
+        left.is(rt, name.as_str(), ("", told.as_str(), 2));
+        drop(name);
         drop(told);
         drop(left);
         drop(store);
     }
+    drop(lines);
     Ok(())
 }
 
 #[test]
 fn broken_scripts_are_explained(rt: HostRuntime) -> Result<(), Fail> {
     for broken in BROKEN {
-        refused_on(&rt, rt.alloc(), broken, ASKED)?;
+        refused_on(&rt, broken, &ASKED)?;
         if broken.line.starts_with("text") {
-            refused_on(&rt, rt.alloc(), broken, PRINTED)?;
+            refused_on(&rt, broken, &PRINTED)?;
         }
     }
     Ok(())
@@ -154,21 +149,9 @@ fn nothing_else_is_explained(rt: HostRuntime) -> Result<(), Fail> {
             3,
         ),
     ] {
-        let mut store = filled(
-            &rt,
-            rt.alloc(),
-            &[("a.cml", "(fn main ())"), ("S", SCHEDULE)],
-        );
-        let left = left_on(&rt, rt.alloc(), line, false, "", &mut store)?;
-        assert!(rt;
-            left.output.as_slice() == output.as_bytes(),
-            "output of {line}"
-        );
-        assert!(rt;
-            left.errors.as_slice() == errors.as_bytes(),
-            "errors of {line}"
-        );
-        assert!(rt; left.status == status, "status of {line}");
+        let mut store = filled(&rt, &[("a.cml", "(fn main ())"), ("S", SCHEDULE)]);
+        let left = left_on(&rt, line, false, "", &mut store)?;
+        left.is(&rt, line, (output, errors, status));
         drop(left);
         drop(store);
     }
@@ -193,15 +176,8 @@ fn texts_that_are_too_long_are_explained(rt: HostRuntime) -> Result<(), Fail> {
             "fmt a.cml --explain",
             "run a.cml --explain",
         ] {
-            let left = left_on(&rt, rt.alloc(), line, false, "", &mut store)?;
-            assert!(rt;
-                left.errors.as_slice() == TOO_LONG.as_bytes(),
-                "{line}, {length}"
-            );
-            assert!(rt;
-                left.status == 2 && left.output.is_empty(),
-                "{line}, {length}"
-            );
+            let left = left_on(&rt, line, false, "", &mut store)?;
+            left.is(&rt, line, ("", TOO_LONG, 2));
             drop(left);
         }
         drop(store);

@@ -1,13 +1,19 @@
 //! Scripts that end at faults as they run, each with its whole answer: how the run ended, and where and why threads ended at faults.
 
-use crate::script_run::{Case, all_come_out};
+use crate::script_run::{Case, PLAIN, all_come_out};
 use std::test::Fail;
+
+// The script is run and explained, and its main thread ends at a fault of kind.
+const EXPLAINED: Case = Case {
+    words: "run a.cml --explain",
+    output: "thread 0 fault kind\nend quiet pending 0\n",
+    ..PLAIN
+};
 
 // Each way in which a script was broken that shows only as it runs.
 const FAULTY: &[Case] = &[
     Case {
         name: "adding a pair",
-        words: "run a.cml --explain",
         files: &[(
             "a.cml",
             "(fn main ()
@@ -16,7 +22,6 @@ const FAULTY: &[Case] = &[
   (print (+ i p)))
 ",
         )],
-        output: "thread 0 fault kind\nend quiet pending 0\n",
         errors: "1 thread ended at a fault
 a.cml:4:3: thread 0 main ends at a fault: + takes numbers, and was given 5 and (pair 1 2)
 4 |   (print (+ i p)))
@@ -24,12 +29,10 @@ a.cml:4:3: thread 0 main ends at a fault: + takes numbers, and was given 5 and (
    in main
    p = (pair 1 2), i = 5
 ",
-        status: 0,
-        saved: &[],
+        ..EXPLAINED
     },
     Case {
         name: "a condition that is no truth value",
-        words: "run a.cml --explain",
         files: &[(
             "a.cml",
             "(fn main ()
@@ -37,7 +40,6 @@ a.cml:4:3: thread 0 main ends at a fault: + takes numbers, and was given 5 and (
   (if n (do (print 1)) (do (print 2))))
 ",
         )],
-        output: "thread 0 fault kind\nend quiet pending 0\n",
         errors: "1 thread ended at a fault
 a.cml:3:3: thread 0 main ends at a fault: if takes a truth value, and was given 3
 3 |   (if n (do (print 1)) (do (print 2))))
@@ -45,12 +47,10 @@ a.cml:3:3: thread 0 main ends at a fault: if takes a truth value, and was given 
    in main
    n = 3
 ",
-        status: 0,
-        saved: &[],
+        ..EXPLAINED
     },
     Case {
         name: "a sync of no event",
-        words: "run a.cml --explain",
         files: &[(
             "a.cml",
             "(fn worker (c)
@@ -71,12 +71,10 @@ a.cml:6:3: thread 0 main ends at a fault: sync takes an event, and was given (ch
    in main
    c = (chan 0)
 ",
-        status: 0,
-        saved: &[],
+        ..EXPLAINED
     },
     Case {
         name: "a guard that returns no event",
-        words: "run a.cml --explain",
         files: &[(
             "a.cml",
             "(fn pick ()
@@ -86,7 +84,6 @@ a.cml:6:3: thread 0 main ends at a fault: sync takes an event, and was given (ch
   (print v))
 ",
         )],
-        output: "thread 0 fault kind\nend quiet pending 0\n",
         errors: "1 thread ended at a fault
 a.cml:2:3: thread 0 main ends at a fault: a guard's or withnack's function returns an event, and this one returned 5
 2 |   (return 5))
@@ -94,12 +91,10 @@ a.cml:2:3: thread 0 main ends at a fault: a guard's or withnack's function retur
    in pick, called at a.cml:4:3
    in main
 ",
-        status: 0,
-        saved: &[],
+        ..EXPLAINED
     },
     Case {
         name: "a forgotten return whose unit is used",
-        words: "run a.cml --explain",
         files: &[(
             "a.cml",
             "(fn twice (n)
@@ -109,7 +104,6 @@ a.cml:2:3: thread 0 main ends at a fault: a guard's or withnack's function retur
   (print (+ y 1)))
 ",
         )],
-        output: "thread 0 fault kind\nend quiet pending 0\n",
         errors: "1 thread ended at a fault
 a.cml:5:3: thread 0 main ends at a fault: + takes numbers, and was given () and 1
 5 |   (print (+ y 1)))
@@ -117,12 +111,10 @@ a.cml:5:3: thread 0 main ends at a fault: + takes numbers, and was given () and 
    in main
    y = ()
 ",
-        status: 0,
-        saved: &[],
+        ..EXPLAINED
     },
     Case {
         name: "a second put",
-        words: "run a.cml --explain",
         files: &[(
             "a.cml",
             "(fn main ()
@@ -139,12 +131,10 @@ a.cml:4:3: thread 0 main ends at a fault: I-variable 0 is full: it can be put on
    in main
    i = (ivar 0)
 ",
-        status: 0,
-        saved: &[],
+        ..EXPLAINED
     },
     Case {
         name: "a negative delay",
-        words: "run a.cml --explain",
         files: &[(
             "a.cml",
             "(fn main ()
@@ -160,12 +150,10 @@ a.cml:3:3: thread 0 main ends at a fault: after takes a tick count from 0, and w
    in main
    d = -3
 ",
-        status: 0,
-        saved: &[],
+        ..EXPLAINED
     },
     Case {
         name: "a stack too deep",
-        words: "run a.cml --explain",
         files: &[(
             "a.cml",
             "(fn count (n)
@@ -192,12 +180,10 @@ a.cml:2:3: thread 0 main ends at a fault: calls nest too deep: a stack has at mo
    and 1014 more
    n = 1022
 ",
-        status: 0,
-        saved: &[],
+        ..EXPLAINED
     },
     Case {
         name: "a value too deep",
-        words: "run a.cml --explain",
         files: &[(
             "a.cml",
             "(fn main ()
@@ -213,12 +199,11 @@ a.cml:3:15: thread 0 main ends at a fault: the pair nests deeper than 64, or has
    in main
    v = (pair (pair (pair (pair (pair (pair (pai..
 ",
-        status: 0,
-        saved: &[],
+        ..EXPLAINED
     },
 ];
 
 #[test]
 fn faults_are_explained(rt: HostRuntime) -> Result<(), Fail> {
-    all_come_out(&rt, rt.alloc(), FAULTY)
+    all_come_out(&rt, FAULTY)
 }

@@ -1,15 +1,12 @@
 //! Streams that fail: the first failing read or write ends the program, and what was written before it stands.
 
 use crate::memory_store::MemoryStore;
-use crate::run::words;
+use crate::run::{Runtime, words};
 use crate::words::HELP;
 use cml_host::{Store, run_command};
 use std::alloc::Global;
 use std::io::{Error, ErrorKind, Read, Result as IoResult, Write};
-use std::process::Abort;
-use std::sync::Wait;
 use std::test::Fail;
-use std::thread::Threads;
 
 // Traces with the text that answers them.
 const TRACES: &[(&str, &str)] = &[
@@ -150,13 +147,13 @@ impl Write for Narrow {
 // What comes of the arguments, with the text as input and in the file `F`, and streams that fail after this many good calls: what was
 // taken, what is written to the errors, the status.
 fn ends(
-    rt: &(impl Abort + Threads + Wait + Sync),
-    alloc: Global,
+    rt: &impl Runtime,
     (line, text): (&str, &str),
     reads: usize,
     mut out: Narrow,
     expected: (&[u8], &str, u8),
 ) -> Result<(), Fail> {
+    let alloc = rt.alloc();
     let words = words(alloc, line)?;
     let mut reader = Dripping {
         rest: text.as_bytes(),
@@ -200,53 +197,53 @@ pub fn taking(alloc: Global, good: usize, takes_nothing: bool) -> Narrow {
     }
 }
 
+/// A writer of which no write fails.
+pub fn taking_all(alloc: Global) -> Narrow {
+    taking(alloc, usize::MAX, false)
+}
+
 #[test]
 fn each_read_fails(rt: HostRuntime) -> Result<(), Fail> {
     let alloc = rt.alloc();
     for (input, output) in TRACES {
         let all = input.len();
         for reads in 0..all {
-            let out = taking(alloc, usize::MAX, false);
+            let out = taking_all(alloc);
             let expected = (b"".as_slice(), "cannot read input\n", 1);
-            ends(&rt, alloc, ("trace", input), reads, out, expected)?;
+            ends(&rt, ("trace", input), reads, out, expected)?;
         }
-        let out = taking(alloc, usize::MAX, false);
+        let out = taking_all(alloc);
         let expected = (b"".as_slice(), "cannot read input\n", 1);
-        ends(&rt, alloc, ("trace", input), all, out, expected)?;
-        let out = taking(alloc, usize::MAX, false);
+        ends(&rt, ("trace", input), all, out, expected)?;
+        let out = taking_all(alloc);
         let expected = (output.as_bytes(), "", 0);
-        ends(&rt, alloc, ("trace", input), usize::MAX, out, expected)?;
+        ends(&rt, ("trace", input), usize::MAX, out, expected)?;
     }
     Ok(())
 }
 
 // Each write of what is written in answer to these arguments fails in turn, or takes nothing.
-fn writes_fail(
-    rt: &(impl Abort + Threads + Wait + Sync),
-    alloc: Global,
-    line: &str,
-    input: &str,
-    output: &str,
-) -> Result<(), Fail> {
+fn writes_fail(rt: &impl Runtime, line: &str, input: &str, output: &str) -> Result<(), Fail> {
+    let alloc = rt.alloc();
     let text = output.as_bytes();
     for writes in 0..text.len() {
         for takes_nothing in [false, true] {
             let out = taking(alloc, writes, takes_nothing);
             let expected = (&text[..writes], "cannot write output\n", 1);
-            ends(rt, alloc, (line, input), usize::MAX, out, expected)?;
+            ends(rt, (line, input), usize::MAX, out, expected)?;
         }
     }
     let out = taking(alloc, text.len(), false);
-    ends(rt, alloc, (line, input), usize::MAX, out, (text, "", 0))
+    ends(rt, (line, input), usize::MAX, out, (text, "", 0))
 }
 
 #[test]
 fn each_write_fails(rt: HostRuntime) -> Result<(), Fail> {
     for &(input, output) in TRACES {
-        writes_fail(&rt, rt.alloc(), "trace", input, output)?;
+        writes_fail(&rt, "trace", input, output)?;
     }
     for &(line, output) in COMMANDS {
-        writes_fail(&rt, rt.alloc(), line, "(fn main () (print 007))", output)?;
+        writes_fail(&rt, line, "(fn main () (print 007))", output)?;
     }
     Ok(())
 }

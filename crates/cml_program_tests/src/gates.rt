@@ -1,19 +1,15 @@
 //! Scripts that workers run, seen from the gate through which each slice goes: there are as many workers as the arguments say.
 
-use crate::run::words;
+use crate::run::{Runtime, words};
 use crate::script_run::filled;
 use cml_host::run_command_counted;
 use cml_stream::Counting;
 use cml_value::Tid;
 use cml_work::Gate;
-use std::alloc::Global;
-use std::process::Abort;
 use std::rt::HostRuntime;
-use std::sync::Wait;
 use std::sync::atomic::{AtomicU64, Ordering};
 use std::test::Fail;
 use std::thread;
-use std::thread::Threads;
 use std::time::Duration;
 
 // Six threads, of which each ends after one turn.
@@ -64,14 +60,10 @@ impl Gate for Meeting {
 }
 
 // Runs the script through the gate.
-fn run_through(
-    rt: &(impl Abort + Threads + Wait + Sync),
-    alloc: Global,
-    line: &str,
-    gate: &Meeting,
-) -> Result<(), Fail> {
+fn run_through(rt: &impl Runtime, line: &str, gate: &Meeting) -> Result<(), Fail> {
+    let alloc = rt.alloc();
     let words = words(alloc, line)?;
-    let mut store = filled(rt, alloc, &[("A", TURNS)]);
+    let mut store = filled(rt, &[("A", TURNS)]);
     let mut input = "".as_bytes();
     let (mut out, mut err) = (Vec::new(alloc), Vec::new(alloc));
     let status = run_command_counted(
@@ -102,7 +94,7 @@ fn as_many_slices_are_out_as_there_are_workers(rt: HostRuntime) -> Result<(), Fa
         ("run A --workers 6 --seed 7", 6),
     ] {
         let gate = Meeting::new(rt, wanted, 10_000);
-        run_through(&rt, rt.alloc(), line, &gate)?;
+        run_through(&rt, line, &gate)?;
         assert!(rt; gate.missed.load(Ordering::SeqCst) == 0, "{line}");
         drop(gate);
     }
@@ -113,13 +105,13 @@ fn as_many_slices_are_out_as_there_are_workers(rt: HostRuntime) -> Result<(), Fa
 fn no_more_slices_are_out_than_there_are_workers(rt: HostRuntime) -> Result<(), Fail> {
     for (line, wanted) in [("run A --workers 2", 3), ("run A --workers 3 --watch 1", 4)] {
         let gate = Meeting::new(rt, wanted, 100);
-        run_through(&rt, rt.alloc(), line, &gate)?;
+        run_through(&rt, line, &gate)?;
         assert!(rt; gate.missed.load(Ordering::SeqCst) > 0, "{line}");
         drop(gate);
     }
     for line in ["run A", "run A --workers 1 --watch 1"] {
         let gate = Meeting::new(rt, 1, 100);
-        run_through(&rt, rt.alloc(), line, &gate)?;
+        run_through(&rt, line, &gate)?;
         assert!(rt; gate.slices.load(Ordering::SeqCst) == 0, "{line}");
         drop(gate);
     }

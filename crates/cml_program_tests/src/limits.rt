@@ -1,78 +1,91 @@
 //! The limits on threads, objects, queues, values, groups and input: traces of parts that repeat.
 
-use crate::run::{Long, Part, each_holds};
+use crate::run::{Long, Part, each_holds, parts_hold};
 use std::test::Fail;
 
-// 65,536 objects of each kind and one more.
-const VARIABLES: &[Long] = &[
-    Long {
+// A kind of thing of which there can be so many: that many are made, and one more is refused.
+struct Kind {
+    name: &'static str,
+    // What is made before, and how that is answered.
+    before: &'static str,
+    answer: &'static str,
+    // The line that makes one, and the word that answers it.
+    line: &'static str,
+    word: &'static str,
+    most: u32,
+}
+
+// An object, before which nothing has to be made.
+const OBJECT: Kind = Kind {
+    name: "",
+    before: "",
+    answer: "",
+    line: "",
+    word: "",
+    most: 65_536,
+};
+
+const KINDS: &[Kind] = &[
+    Kind {
         name: "channel-limit",
-        input: &[Part::Times("chan\n", 65_537)],
-        output: &[Part::Each("chan", 65_536), Part::Once("refused 10 full\n")],
-        status: 0,
+        line: "chan\n",
+        word: "chan",
+        ..OBJECT
     },
-    Long {
+    Kind {
         name: "swap-channel-limit",
-        input: &[Part::Times("swapchan\n", 65_537)],
-        output: &[
-            Part::Each("swapchan", 65_536),
-            Part::Once("refused 10 full\n"),
-        ],
-        status: 0,
+        line: "swapchan\n",
+        word: "swapchan",
+        ..OBJECT
     },
-    Long {
+    Kind {
         name: "ivar-limit",
-        input: &[Part::Times("ivar\n", 65_537)],
-        output: &[Part::Each("ivar", 65_536), Part::Once("refused 10 full\n")],
-        status: 0,
+        line: "ivar\n",
+        word: "ivar",
+        ..OBJECT
     },
-    Long {
+    Kind {
         name: "mvar-limit",
-        input: &[Part::Times("mvar\n", 65_537)],
-        output: &[Part::Each("mvar", 65_536), Part::Once("refused 10 full\n")],
-        status: 0,
+        line: "mvar\n",
+        word: "mvar",
+        ..OBJECT
     },
-];
-
-const MAILBOXES: &[Long] = &[
-    Long {
+    Kind {
         name: "mailbox-limit",
-        input: &[Part::Times("mailbox\n", 65_537)],
-        output: &[
-            Part::Each("mailbox", 65_536),
-            Part::Once("refused 10 full\n"),
-        ],
-        status: 0,
+        line: "mailbox\n",
+        word: "mailbox",
+        ..OBJECT
     },
-    Long {
+    Kind {
         name: "multicast-channel-limit",
-        input: &[Part::Times("mchan\n", 65_537)],
-        output: &[Part::Each("mchan", 65_536), Part::Once("refused 10 full\n")],
-        status: 0,
+        line: "mchan\n",
+        word: "mchan",
+        ..OBJECT
+    },
+    Kind {
+        name: "port-limit",
+        before: "mchan\n",
+        answer: "mchan 0\n",
+        line: "port 0\n",
+        word: "port",
+        ..OBJECT
+    },
+    Kind {
+        name: "nack-limit",
+        before: "spawn\n",
+        answer: "thread 0\n",
+        line: "nack 0\n",
+        word: "nack",
+        ..OBJECT
+    },
+    Kind {
+        name: "thread-limit",
+        line: "spawn\n",
+        word: "thread",
+        most: 4096,
+        ..OBJECT
     },
 ];
-
-const PORTS: &[Long] = &[Long {
-    name: "port-limit",
-    input: &[Part::Once("mchan\n"), Part::Times("port 0\n", 65_537)],
-    output: &[
-        Part::Once("mchan 0\n"),
-        Part::Each("port", 65_536),
-        Part::Once("refused 10 full\n"),
-    ],
-    status: 0,
-}];
-
-const NACKS: &[Long] = &[Long {
-    name: "nack-limit",
-    input: &[Part::Once("spawn\n"), Part::Times("nack 0\n", 65_537)],
-    output: &[
-        Part::Once("thread 0\n"),
-        Part::Each("nack", 65_536),
-        Part::Once("refused 10 full\n"),
-    ],
-    status: 0,
-}];
 
 // One of two ports holds 65,536 messages, and the other was made last: it stays as it was.
 const QUEUES: &[Long] = &[
@@ -102,151 +115,173 @@ const QUEUES: &[Long] = &[
     },
 ];
 
-const OTHERS: &[Long] = &[
-    Long {
+// A trace of which two parts stand in it so many times, one before what is inside and one behind it, and what answers it.
+struct Repeated {
+    name: &'static str,
+    before: &'static str,
+    open: &'static str,
+    times: u32,
+    inside: &'static str,
+    close: &'static str,
+    after: &'static str,
+    output: &'static str,
+    status: u8,
+}
+
+// Choices, each of which is the one event of the next.
+const CHOICES: Repeated = Repeated {
+    name: "",
+    before: "spawn\nsync 0 ",
+    open: "(choose ",
+    times: 0,
+    inside: "never",
+    close: ")",
+    after: "\n",
+    output: "",
+    status: 0,
+};
+
+// One choice of many events.
+const LEAVES: Repeated = Repeated {
+    before: "spawn\nsync 0 (choose",
+    open: " (always 1)",
+    inside: "",
+    close: "",
+    after: ")\n",
+    ..CHOICES
+};
+
+// Pairs, each of which is the first part of the next.
+const PAIRS: Repeated = Repeated {
+    before: "mvar ",
+    open: "(pair ",
+    inside: "1",
+    close: " 1)",
+    ..CHOICES
+};
+
+// Such pairs, which a thread offers to swap.
+const SWAPPED_PAIRS: Repeated = Repeated {
+    before: "spawn\nswapchan\nsync 0 (swap 0 ",
+    after: ")\n",
+    ..PAIRS
+};
+
+// Spaces.
+const SPACES: Repeated = Repeated {
+    before: "",
+    open: " ",
+    inside: "",
+    close: "",
+    after: "",
+    ..CHOICES
+};
+
+const OTHERS: &[Repeated] = &[
+    Repeated {
         name: "choose-nested-63",
-        input: &[
-            Part::Once("spawn\nsync 0 "),
-            Part::Times("(choose ", 63),
-            Part::Once("never"),
-            Part::Times(")", 63),
-            Part::Once("\n"),
-        ],
-        output: &[Part::Once("thread 0\nok\n")],
-        status: 0,
+        times: 63,
+        output: "thread 0\nok\n",
+        ..CHOICES
     },
-    Long {
+    Repeated {
         name: "choose-nested-64",
-        input: &[
-            Part::Once("spawn\nsync 0 "),
-            Part::Times("(choose ", 64),
-            Part::Once("never"),
-            Part::Times(")", 64),
-            Part::Once("\n"),
-        ],
-        output: &[Part::Once("thread 0\nrefused 8 deep\n")],
-        status: 0,
+        times: 64,
+        output: "thread 0\nrefused 8 deep\n",
+        ..CHOICES
     },
-    Long {
+    Repeated {
         name: "leaves-256",
-        input: &[
-            Part::Once("spawn\nsync 0 (choose"),
-            Part::Times(" (always 1)", 256),
-            Part::Once(")\n"),
-        ],
-        output: &[Part::Once("thread 0\nok\n")],
-        status: 0,
+        times: 256,
+        output: "thread 0\nok\n",
+        ..LEAVES
     },
-    Long {
+    Repeated {
         name: "leaves-257",
-        input: &[
-            Part::Once("spawn\nsync 0 (choose"),
-            Part::Times(" (always 1)", 257),
-            Part::Once(")\n"),
-        ],
-        output: &[Part::Once("thread 0\nrefused 7 leaves\n")],
-        status: 0,
+        times: 257,
+        output: "thread 0\nrefused 7 leaves\n",
+        ..LEAVES
     },
-    Long {
+    Repeated {
         name: "value-depth-64",
-        input: &[
-            Part::Once("mvar "),
-            Part::Times("(pair ", 63),
-            Part::Once("1"),
-            Part::Times(" 1)", 63),
-            Part::Once("\n"),
-        ],
-        output: &[Part::Once("mvar 0\n")],
-        status: 0,
+        times: 63,
+        output: "mvar 0\n",
+        ..PAIRS
     },
-    Long {
+    Repeated {
         name: "value-depth-65",
-        input: &[
-            Part::Once("mvar "),
-            Part::Times("(pair ", 64),
-            Part::Once("1"),
-            Part::Times(" 1)", 64),
-            Part::Once("\n"),
-        ],
-        output: &[Part::Once("refused 8 deep\n")],
-        status: 0,
+        times: 64,
+        output: "refused 8 deep\n",
+        ..PAIRS
     },
-    Long {
+    Repeated {
         name: "swapped-value-depth-63",
-        input: &[
-            Part::Once("spawn\nswapchan\nsync 0 (swap 0 "),
-            Part::Times("(pair ", 62),
-            Part::Once("1"),
-            Part::Times(" 1)", 62),
-            Part::Once(")\n"),
-        ],
-        output: &[Part::Once("thread 0\nswapchan 0\nok\n")],
-        status: 0,
+        times: 62,
+        output: "thread 0\nswapchan 0\nok\n",
+        ..SWAPPED_PAIRS
     },
-    Long {
+    Repeated {
         name: "swapped-value-depth-64",
-        input: &[
-            Part::Once("spawn\nswapchan\nsync 0 (swap 0 "),
-            Part::Times("(pair ", 63),
-            Part::Once("1"),
-            Part::Times(" 1)", 63),
-            Part::Once(")\n"),
-        ],
-        output: &[Part::Once("thread 0\nswapchan 0\nrefused 8 deep\n")],
-        status: 0,
+        times: 63,
+        output: "thread 0\nswapchan 0\nrefused 8 deep\n",
+        ..SWAPPED_PAIRS
     },
-    Long {
+    Repeated {
         name: "trace-too-long",
-        input: &[Part::Times(" ", 1_048_577)],
-        output: &[Part::Once("too long\n")],
+        times: 1_048_577,
+        output: "too long\n",
         status: 2,
+        ..SPACES
     },
-    Long {
-        name: "thread-limit",
-        input: &[Part::Times("spawn\n", 4097)],
-        output: &[Part::Each("thread", 4096), Part::Once("refused 10 full\n")],
-        status: 0,
-    },
-    Long {
+    Repeated {
         name: "longest-input",
-        input: &[Part::Once("spawn\n"), Part::Times(" ", 1048570)],
-        output: &[Part::Once("thread 0\n")],
-        status: 0,
+        times: 1_048_570,
+        before: "spawn\n",
+        output: "thread 0\n",
+        ..SPACES
     },
-    Long {
+    Repeated {
         name: "too-long-input",
-        input: &[Part::Once("spawn\n"), Part::Times(" ", 1048571)],
-        output: &[Part::Once("too long\n")],
+        times: 1_048_571,
+        before: "spawn\n",
+        output: "too long\n",
         status: 2,
+        ..SPACES
     },
 ];
 
 #[test]
-fn variables(rt: HostRuntime) -> Result<(), Fail> {
-    each_holds(&rt, rt.alloc(), VARIABLES)
-}
-
-#[test]
-fn mailboxes(rt: HostRuntime) -> Result<(), Fail> {
-    each_holds(&rt, rt.alloc(), MAILBOXES)
-}
-
-#[test]
-fn ports(rt: HostRuntime) -> Result<(), Fail> {
-    each_holds(&rt, rt.alloc(), PORTS)
-}
-
-#[test]
-fn nacks(rt: HostRuntime) -> Result<(), Fail> {
-    each_holds(&rt, rt.alloc(), NACKS)
+fn kinds(rt: HostRuntime) -> Result<(), Fail> {
+    for kind in KINDS {
+        let lines = Part::Times(kind.line, kind.most.saturating_add(1));
+        let input = [Part::Once(kind.before), lines];
+        let output = [
+            Part::Once(kind.answer),
+            Part::Each(kind.word, kind.most),
+            Part::Once("refused 10 full\n"),
+        ];
+        parts_hold(&rt, kind.name, &input, &output, 0)?;
+    }
+    Ok(())
 }
 
 #[test]
 fn queues(rt: HostRuntime) -> Result<(), Fail> {
-    each_holds(&rt, rt.alloc(), QUEUES)
+    each_holds(&rt, QUEUES)
 }
 
 #[test]
 fn others(rt: HostRuntime) -> Result<(), Fail> {
-    each_holds(&rt, rt.alloc(), OTHERS)
+    for it in OTHERS {
+        let input = [
+            Part::Once(it.before),
+            Part::Times(it.open, it.times),
+            Part::Once(it.inside),
+            Part::Times(it.close, it.times),
+            Part::Once(it.after),
+        ];
+        let output = [Part::Once(it.output)];
+        parts_hold(&rt, it.name, &input, &output, it.status)?;
+    }
+    Ok(())
 }

@@ -1,7 +1,7 @@
 //! Pictures of runs, by `draw` and by `run --draw`.
 
 use crate::run::Part;
-use crate::script_run::{Case, all_come_out};
+use crate::script_run::{Case, PLAIN, all_come_out};
 use std::test::Fail;
 
 // A value goes over a channel.
@@ -31,6 +31,14 @@ const FULL: &str =
 const LONG: &str =
     "(fn main ()\n  (let i 0)\n  (while (< i 2000)\n    (sync (always i))\n    (set i (+ i 1))))";
 
+// The picture of the run is saved.
+const DRAWN: Case = Case {
+    files: &[("put.cml", PUT)],
+    output: "5\nend quiet pending 0\n",
+    saved: &[Part::Once(RAN)],
+    ..PLAIN
+};
+
 const CASES: &[Case] = &[
     Case {
         name: "a picture",
@@ -43,9 +51,7 @@ const CASES: &[Case] = &[
             ),
         ],
         output: SENT,
-        errors: "",
-        status: 0,
-        saved: &[],
+        ..PLAIN
     },
     Case {
         name: "a picture of a part",
@@ -58,27 +64,18 @@ const CASES: &[Case] = &[
             ),
         ],
         output: STUCK,
-        errors: "",
-        status: 0,
-        saved: &[],
+        ..PLAIN
     },
     Case {
         name: "a picture is saved",
         words: "run put.cml --draw S",
-        files: &[("put.cml", PUT)],
-        output: "5\nend quiet pending 0\n",
-        errors: "",
-        status: 0,
-        saved: &[Part::Once(RAN)],
+        ..DRAWN
     },
     Case {
         name: "a picture is saved in place of another file",
         words: "run put.cml --record P --draw S --explain",
         files: &[("put.cml", PUT), ("S", "what lay there before\n")],
-        output: "5\nend quiet pending 0\n",
-        errors: "",
-        status: 0,
-        saved: &[Part::Once(RAN)],
+        ..DRAWN
     },
     Case {
         name: "too much to draw",
@@ -87,7 +84,7 @@ const CASES: &[Case] = &[
         output: "end quiet pending 0\n",
         errors: "too many items to draw, use --from and --to\n",
         status: 1,
-        saved: &[],
+        ..PLAIN
     },
     Case {
         name: "too much to draw, where the schedule is saved",
@@ -107,13 +104,11 @@ const CASES: &[Case] = &[
         words: "run a.cml --draw P --explain",
         files: &[("a.cml", FULL)],
         output: "end quiet pending 0\n",
-        errors: "",
-        status: 0,
-        saved: &[],
+        ..PLAIN
     },
 ];
 
 #[test]
 fn runs_are_drawn(rt: HostRuntime) -> Result<(), Fail> {
-    all_come_out(&rt, rt.alloc(), CASES)
+    all_come_out(&rt, CASES)
 }

@@ -1,13 +1,9 @@
 //! Traces of which it is told what was refused, and why a line is bad: whole answers, by each way of asking for them.
 
-use crate::explained::left_on;
+use crate::explained::Lines;
 use crate::memory_store::MemoryStore;
-use crate::run::{Part, whole};
-use std::alloc::Global;
-use std::process::Abort;
-use std::sync::Wait;
+use crate::run::{Part, Runtime, left_on, whole};
 use std::test::Fail;
-use std::thread::Threads;
 
 // A trace, what answers it, what is told of it where it is explained, and the status.
 struct Told {
@@ -42,43 +38,33 @@ const TRACES: &[Told] = &[
     },
 ];
 
-// Arguments, whether the errors go to a terminal, and whether it is told what is wrong.
-const ASKED: &[(&str, bool, bool)] = &[
-    ("trace", false, false),
-    ("trace --explain", false, true),
-    ("trace --plain", false, false),
-    ("trace --explain --plain", false, false),
-    ("trace --plain --explain", false, false),
-    ("trace", true, true),
-    ("trace --explain", true, true),
-    ("trace --plain", true, false),
-    ("trace --live", false, false),
-    ("trace --live --plain", false, false),
-    ("trace --live", true, false),
-    ("trace --live --plain", true, false),
-];
+const ASKED: Lines = Lines {
+    explained: &["trace --explain"],
+    plain: &[
+        "trace",
+        "trace --plain",
+        "trace --explain --plain",
+        "trace --plain --explain",
+        "trace --live",
+        "trace --live --plain",
+    ],
+    explained_on_terminal: &["trace", "trace --explain"],
+    plain_on_terminal: &["trace --plain", "trace --live", "trace --live --plain"],
+};
 
 // The trace is answered so on this line of arguments.
 fn told_on(
-    rt: &(impl Abort + Threads + Wait + Sync),
-    alloc: Global,
+    rt: &impl Runtime,
     trace: &Told,
     (line, terminal, explained): (&str, bool, bool),
 ) -> Result<(), Fail> {
+    let alloc = rt.alloc();
     let input = whole(alloc, trace.input)?;
     let output = whole(alloc, trace.output)?;
     let told = if explained { trace.told } else { "" };
     let mut store = MemoryStore::new(alloc);
-    let left = left_on(rt, alloc, line, terminal, input.as_str(), &mut store)?;
-    assert!(rt;
-        left.output.as_slice() == output.as_bytes(),
-        "output of {line}"
-    );
-    assert!(rt;
-        left.errors.as_slice() == told.as_bytes(),
-        "errors of {line}"
-    );
-    assert!(rt; left.status == trace.status, "status of {line}");
+    let left = left_on(rt, line, terminal, input.as_str(), &mut store)?;
+    left.is(rt, line, (output.as_str(), told, trace.status));
     drop(input);
     drop(output);
     drop(left);
@@ -88,11 +74,13 @@ fn told_on(
 
 #[test]
 fn traces_are_explained(rt: HostRuntime) -> Result<(), Fail> {
+    let lines = ASKED.all(rt.alloc())?;
     for trace in TRACES {
-        for &asked in ASKED {
-            told_on(&rt, rt.alloc(), trace, asked)?;
+        for line in lines.as_slice() {
+            told_on(&rt, trace, *line)?;
         }
     }
+    drop(lines);
     Ok(())
 }
 
@@ -115,8 +103,8 @@ const LIMITS: &[Told] = &[
 #[test]
 fn traces_at_limits_are_explained(rt: HostRuntime) -> Result<(), Fail> {
     for trace in LIMITS {
-        told_on(&rt, rt.alloc(), trace, ("trace", false, false))?;
-        told_on(&rt, rt.alloc(), trace, ("trace --explain", false, true))?;
+        told_on(&rt, trace, ("trace", false, false))?;
+        told_on(&rt, trace, ("trace --explain", false, true))?;
     }
     Ok(())
 }

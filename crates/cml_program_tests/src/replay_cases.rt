@@ -1,58 +1,33 @@
 //! Scripts that are run again by a schedule: worked cases, and schedules that are refused.
 
-use crate::script_run::{ADDITION, CANCELLED, Case, SWAPPED, all_come_out};
+use crate::script_run::{
+    ADDED, ADDITION, CANCELLED, CANCELLED_WATCHED, Case, EXCHANGED, PLAIN, REFUSED, REPLAY,
+    SWAPPED, SWAPPED_WATCHED, all_come_out,
+};
 use std::test::Fail;
+
+// The schedule of the exchange as version 1 writes it.
+const EXCHANGED_BY_1: &str =
+    "schedule 1 1000000\nturn 0\nturn 0\nturn 1\nturn 0\ncommit 0 0 1 0\nturn 0\nturn 1\nturn 0\nturn 1\nend\n";
 
 const CASES: &[Case] = &[
     Case {
         name: "addition-replay-1",
-        words: "replay A S",
         files: &[
             ("A", ADDITION),
             (
                 "S",
-                "schedule 1 1000000
-turn 0
-turn 0
-turn 1
-turn 0
-commit 1 0 0 0
-turn 1
-turn 0
-turn 0
-end
-",
+                "schedule 1 1000000\nturn 0\nturn 0\nturn 1\nturn 0\ncommit 1 0 0 0\nturn 1\nturn 0\nturn 0\nend\n",
             ),
         ],
         output: "42\nend quiet pending 0\n",
-        errors: "",
-        status: 0,
-        saved: &[],
+        ..REPLAY
     },
     Case {
         name: "addition-replay-2",
-        words: "replay A S",
-        files: &[
-            ("A", ADDITION),
-            (
-                "S",
-                "schedule 2 1000000 3 6
-turn 0
-turn 0
-turn 1
-turn 0
-commit 1 0 0 0
-turn 1
-turn 0
-turn 0
-end
-",
-            ),
-        ],
+        files: &[("A", ADDITION), ("S", ADDED)],
         output: "42\nend quiet pending 0\n",
-        errors: "",
-        status: 0,
-        saved: &[],
+        ..REPLAY
     },
     Case {
         name: "cancelled-branch-replay-watch",
@@ -61,135 +36,72 @@ end
             ("B", CANCELLED),
             (
                 "S",
-                "schedule 1 1000000
-turn 0
-turn 0
-turn 0
-turn 1
-turn 0
-commit 0 1
-turn 0
-turn 0
-commit 1 0
-turn 1
-turn 1
-end
-",
+                "schedule 1 1000000\nturn 0\nturn 0\nturn 0\nturn 1\nturn 0\ncommit 0 1\nturn 0\nturn 0\ncommit 1 0\nturn 1\nturn 1\nend\n",
             ),
         ],
         output: "7\ncancelled\nend quiet pending 0\n",
-        errors: "report 5 rows 1 waiting 2
-row 0 1
-wait 0
-wait 1
-report 10 rows 0 waiting 0
-",
-        status: 0,
-        saved: &[],
+        errors: CANCELLED_WATCHED,
+        ..PLAIN
     },
     Case {
         name: "schedule-budget-zero",
-        words: "replay A S",
         files: &[("A", ADDITION), ("S", "schedule 1 0\nend\n")],
-        output: "",
         errors: "schedule line 1\n",
-        status: 3,
-        saved: &[],
+        ..REFUSED
     },
     Case {
         name: "schedule-head-alone",
-        words: "replay A S",
         files: &[("A", ADDITION), ("S", "schedule 1 100\n")],
-        output: "",
         errors: "schedule line 2\n",
-        status: 3,
-        saved: &[],
+        ..REFUSED
     },
     Case {
         name: "schedule-head-too-short",
-        words: "replay A S",
         files: &[("A", ADDITION), ("S", "schedule 2 1000000 3\nend\n")],
-        output: "",
         errors: "schedule line 1\n",
-        status: 3,
-        saved: &[],
+        ..REFUSED
     },
     Case {
         name: "schedule-item-after-end",
-        words: "replay A S",
         files: &[("A", ADDITION), ("S", "schedule 1 9\nend\nturn 0\n")],
-        output: "",
         errors: "schedule line 3\n",
-        status: 3,
-        saved: &[],
+        ..REFUSED
     },
     Case {
         name: "schedule-item-not-allowed-1",
-        words: "replay A S",
         files: &[
             ("A", ADDITION),
             (
                 "S",
-                "schedule 1 1000000
-turn 0
-turn 1
-turn 1
-turn 0
-commit 1 0 0 0
-turn 1
-turn 0
-turn 0
-end
-",
+                "schedule 1 1000000\nturn 0\nturn 1\nturn 1\nturn 0\ncommit 1 0 0 0\nturn 1\nturn 0\nturn 0\nend\n",
             ),
         ],
-        output: "",
         errors: "schedule item 2\n",
-        status: 3,
-        saved: &[],
+        ..REFUSED
     },
     Case {
         name: "schedule-item-not-allowed-2",
-        words: "replay A S",
         files: &[
             ("A", ADDITION),
             (
                 "S",
-                "schedule 2 1000000 3 6
-turn 0
-turn 1
-turn 1
-turn 0
-commit 1 0 0 0
-turn 1
-turn 0
-turn 0
-end
-",
+                "schedule 2 1000000 3 6\nturn 0\nturn 1\nturn 1\nturn 0\ncommit 1 0 0 0\nturn 1\nturn 0\nturn 0\nend\n",
             ),
         ],
-        output: "",
         errors: "schedule item 2\n",
-        status: 3,
-        saved: &[],
+        ..REFUSED
     },
     Case {
         name: "schedule-no-items",
-        words: "replay A S",
         files: &[("A", ADDITION), ("S", "schedule 1 9\nend\n")],
         output: "end partial pending 0\n",
-        errors: "",
-        status: 0,
-        saved: &[],
+        ..REPLAY
     },
     Case {
         name: "schedule-of-another-program",
-        words: "replay A S",
         files: &[("A", ADDITION), ("S", "schedule 2 1000000 3 7\nend\n")],
-        output: "",
         errors: "schedule program\n",
-        status: 3,
-        saved: &[],
+        ..REFUSED
     },
     Case {
         name: "schedule-partial",
@@ -199,108 +111,48 @@ end
             ("S", "schedule 1 100\nturn 0\nend\n"),
         ],
         output: "end partial pending 0\n",
-        errors: "",
-        status: 0,
-        saved: &[],
+        ..PLAIN
     },
     Case {
         name: "schedule-version-3",
-        words: "replay A S",
         files: &[("A", ADDITION), ("S", "schedule 3 1 1 1\nend\n")],
-        output: "",
         errors: "schedule line 1\n",
-        status: 3,
-        saved: &[],
+        ..REFUSED
     },
     Case {
         name: "swap-for-a-channel-row",
-        words: "replay A S",
         files: &[
             ("A", ADDITION),
             (
                 "S",
-                "schedule 2 1000000 3 6
-turn 0
-turn 0
-turn 1
-turn 0
-swap 1 0 0 0
-turn 1
-turn 0
-turn 0
-end
-",
+                "schedule 2 1000000 3 6\nturn 0\nturn 0\nturn 1\nturn 0\nswap 1 0 0 0\nturn 1\nturn 0\nturn 0\nend\n",
             ),
         ],
-        output: "",
         errors: "schedule item 5\n",
-        status: 3,
-        saved: &[],
+        ..REFUSED
     },
     Case {
         name: "swap-line-in-version-1",
-        words: "replay A S",
         files: &[("A", ADDITION), ("S", "schedule 1 9\nswap 0 0 1 0\nend\n")],
-        output: "",
         errors: "schedule line 2\n",
-        status: 3,
-        saved: &[],
+        ..REFUSED
     },
     Case {
         name: "swap-script-replay-1",
         words: "replay D S",
-        files: &[
-            ("D", SWAPPED),
-            (
-                "S",
-                "schedule 1 1000000
-turn 0
-turn 0
-turn 1
-turn 0
-commit 0 0 1 0
-turn 0
-turn 1
-turn 0
-turn 1
-end
-",
-            ),
-        ],
+        files: &[("D", SWAPPED), ("S", EXCHANGED_BY_1)],
         output: "2\n1\nend quiet pending 0\n",
-        errors: "",
-        status: 0,
-        saved: &[],
+        ..PLAIN
     },
     Case {
         name: "swap-script-replay-2",
         words: "replay D S",
-        files: &[
-            ("D", SWAPPED),
-            (
-                "S",
-                "schedule 2 1000000 2 6
-turn 0
-turn 0
-turn 1
-turn 0
-swap 0 0 1 0
-turn 0
-turn 1
-turn 0
-turn 1
-end
-",
-            ),
-        ],
+        files: &[("D", SWAPPED), ("S", EXCHANGED)],
         output: "2\n1\nend quiet pending 0\n",
-        errors: "",
-        status: 0,
-        saved: &[],
+        ..PLAIN
     },
     Case {
         name: "budget-of-a-schedule-is-used",
-        words: "replay A S",
         files: &[
             ("A", ADDITION),
             (
@@ -309,65 +161,28 @@ end
             ),
         ],
         output: "end budget pending 2\n",
-        errors: "",
         status: 4,
-        saved: &[],
+        ..REPLAY
     },
     Case {
         name: "items-past-the-budget",
-        words: "replay A S",
         files: &[
             ("A", ADDITION),
             (
                 "S",
-                "schedule 2 6 3 6
-turn 0
-turn 0
-turn 1
-turn 0
-commit 1 0 0 0
-turn 1
-turn 0
-turn 0
-end
-",
+                "schedule 2 6 3 6\nturn 0\nturn 0\nturn 1\nturn 0\ncommit 1 0 0 0\nturn 1\nturn 0\nturn 0\nend\n",
             ),
         ],
         output: "42\nend quiet pending 0\n",
-        errors: "",
-        status: 0,
-        saved: &[],
+        ..REPLAY
     },
     Case {
         name: "reports-of-a-swap-replayed-from-version-1",
         words: "replay D S --watch 4",
-        files: &[
-            ("D", SWAPPED),
-            (
-                "S",
-                "schedule 1 1000000
-turn 0
-turn 0
-turn 1
-turn 0
-commit 0 0 1 0
-turn 0
-turn 1
-turn 0
-turn 1
-end
-",
-            ),
-        ],
+        files: &[("D", SWAPPED), ("S", EXCHANGED_BY_1)],
         output: "2\n1\nend quiet pending 0\n",
-        errors: "report 4 rows 1 waiting 2
-row 0 0 1 0
-wait 0
-wait 1
-report 8 rows 0 waiting 0
-",
-        status: 0,
-        saved: &[],
+        errors: SWAPPED_WATCHED,
+        ..PLAIN
     },
     Case {
         name: "no-report-where-a-schedule-is-refused",
@@ -376,84 +191,50 @@ report 8 rows 0 waiting 0
             ("A", ADDITION),
             (
                 "S",
-                "schedule 2 1000000 3 6
-turn 0
-turn 0
-turn 9
-turn 0
-commit 1 0 0 0
-turn 9
-turn 0
-turn 0
-end
-",
+                "schedule 2 1000000 3 6\nturn 0\nturn 0\nturn 9\nturn 0\ncommit 1 0 0 0\nturn 9\nturn 0\nturn 0\nend\n",
             ),
         ],
-        output: "",
         errors: "schedule item 3\n",
         status: 3,
-        saved: &[],
+        ..PLAIN
     },
     Case {
         name: "schedule-file-not-there",
-        words: "replay A S",
         files: &[("A", ADDITION)],
-        output: "",
         errors: "cannot read S\n",
         status: 1,
-        saved: &[],
+        ..REPLAY
     },
     Case {
         name: "schedule-is-not-looked-at-before-the-script",
         words: "replay F S",
         files: &[("F", "(fn main () (print x))")],
-        output: "",
         errors: "check 4 unbound at 19\n",
         status: 2,
-        saved: &[],
+        ..PLAIN
     },
     Case {
         name: "script-of-a-replay-not-there",
         words: "replay F S",
-        files: &[(
-            "S",
-            "schedule 2 1000000 3 6
-turn 0
-turn 0
-turn 1
-turn 0
-commit 1 0 0 0
-turn 1
-turn 0
-turn 0
-end
-",
-        )],
-        output: "",
+        files: &[("S", ADDED)],
         errors: "cannot read F\n",
         status: 1,
-        saved: &[],
+        ..PLAIN
     },
     Case {
         name: "line-goes-before-the-size",
-        words: "replay A S",
         files: &[
             ("A", ADDITION),
             ("S", "schedule 2 9 3 7\nturn 0\nwalk\nend\n"),
         ],
-        output: "",
         errors: "schedule line 3\n",
-        status: 3,
-        saved: &[],
+        ..REFUSED
     },
     Case {
         name: "size-goes-before-the-items",
-        words: "replay A S",
         files: &[("A", ADDITION), ("S", "schedule 2 9 3 7\nturn 9\nend\n")],
-        output: "",
         errors: "schedule program\n",
-        status: 3,
-        saved: &[],
+        ..REFUSED
     },
     Case {
         name: "clock-that-is-not-due",
@@ -465,14 +246,13 @@ end
             ),
             ("S", "schedule 2 99 1 3\nturn 0\nclock 9\nend\n"),
         ],
-        output: "",
         errors: "schedule item 2\n",
         status: 3,
-        saved: &[],
+        ..PLAIN
     },
 ];
 
 #[test]
 fn scripts_are_replayed(rt: HostRuntime) -> Result<(), Fail> {
-    all_come_out(&rt, rt.alloc(), CASES)
+    all_come_out(&rt, CASES)
 }

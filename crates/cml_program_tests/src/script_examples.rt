@@ -1,13 +1,9 @@
 //! The scripts of the folder `examples`, each with the text beside it: they are run, and then run again by the schedule that was recorded.
 
 use crate::memory_store::MemoryStore;
-use crate::run::left_by;
+use crate::run::{Runtime, left_by};
 use crate::script_run::filled;
-use std::alloc::Global;
-use std::process::Abort;
-use std::sync::Wait;
 use std::test::Fail;
-use std::thread::Threads;
 
 struct Example {
     name: &'static str,
@@ -308,13 +304,12 @@ end quiet pending 1
 
 // The program on these arguments writes what the example says.
 fn writes(
-    rt: &(impl Abort + Threads + Wait + Sync),
-    alloc: Global,
+    rt: &impl Runtime,
     line: &str,
     example: &Example,
     store: &mut MemoryStore,
 ) -> Result<(), Fail> {
-    let left = left_by(rt, alloc, line, "", store)?;
+    let left = left_by(rt, line, "", store)?;
     let name = example.name;
     assert!(rt;
         left.errors.is_empty() && left.status == 0,
@@ -332,9 +327,9 @@ fn writes(
 fn examples_are_run_and_replayed(rt: HostRuntime) -> Result<(), Fail> {
     let alloc = rt.alloc();
     for example in EXAMPLES {
-        let mut store = filled(&rt, alloc, &[("F", example.script)]);
-        writes(&rt, alloc, example.words, example, &mut store)?;
-        writes(&rt, alloc, "replay F S", example, &mut store)?;
+        let mut store = filled(&rt, &[("F", example.script)]);
+        writes(&rt, example.words, example, &mut store)?;
+        writes(&rt, "replay F S", example, &mut store)?;
         drop(store);
     }
     Ok(())

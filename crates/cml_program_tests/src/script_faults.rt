@@ -1,30 +1,17 @@
 //! Runs of which a write fails, or the save of the schedule: what was written before it stands, and nothing comes after but what went wrong.
 
-use crate::faults::{Narrow, taking};
-use crate::run::words;
+use crate::faults::{Narrow, taking, taking_all};
+use crate::run::{Runtime, words};
 use crate::script_run::{ADDITION, filled};
 use cml_host::{Store, StoreFault, run_command};
-use std::alloc::Global;
 use std::process::Abort;
-use std::sync::Wait;
 use std::test::Fail;
-use std::thread::Threads;
 
 const FILES: &[(&str, &str)] = &[
     ("A", ADDITION),
     (
         "R",
-        "schedule 2 9 3 6
-turn 0
-turn 0
-turn 1
-turn 0
-commit 1 0 0 0
-turn 1
-turn 0
-turn 0
-end
-",
+        "schedule 2 9 3 6\nturn 0\nturn 0\nturn 1\nturn 0\ncommit 1 0 0 0\nturn 1\nturn 0\nturn 0\nend\n",
     ),
 ];
 
@@ -33,12 +20,7 @@ const RUNS: &[(&str, &str, &str, bool, u8)] = &[
     (
         "run A --watch 4 --record S",
         "42\nend quiet pending 0\n",
-        "report 4 rows 1 waiting 2
-row 1 0 0 0
-wait 0
-wait 1
-report 8 rows 0 waiting 0
-",
+        "report 4 rows 1 waiting 2\nrow 1 0 0 0\nwait 0\nwait 1\nreport 8 rows 0 waiting 0\n",
         true,
         0,
     ),
@@ -52,12 +34,7 @@ report 8 rows 0 waiting 0
     (
         "replay A R --watch 4",
         "42\nend quiet pending 0\n",
-        "report 4 rows 1 waiting 2
-row 1 0 0 0
-wait 0
-wait 1
-report 8 rows 0 waiting 0
-",
+        "report 4 rows 1 waiting 2\nrow 1 0 0 0\nwait 0\nwait 1\nreport 8 rows 0 waiting 0\n",
         false,
         0,
     ),
@@ -83,15 +60,15 @@ struct Left {
 
 // The program on these arguments, over writers that fail, and a store that may be closed.
 fn leaves(
-    rt: &(impl Abort + Threads + Wait + Sync),
-    alloc: Global,
+    rt: &impl Runtime,
     line: &str,
     mut out: Narrow,
     mut err: Narrow,
     is_closed: bool,
 ) -> Result<Left, Fail> {
+    let alloc = rt.alloc();
     let words = words(alloc, line)?;
-    let mut store = filled(rt, alloc, FILES);
+    let mut store = filled(rt, FILES);
     if is_closed {
         store.close();
     }
@@ -130,32 +107,24 @@ fn is_cut(rt: &impl Abort, left: &Left, output: &[u8], errors: &[u8], line: &str
 #[test]
 fn each_write_of_a_run_fails(rt: HostRuntime) -> Result<(), Fail> {
     let alloc = rt.alloc();
-    let ample = usize::MAX;
     for &(line, output, errors, is_saved, status) in RUNS {
         let (output, errors) = (output.as_bytes(), errors.as_bytes());
         for takes_nothing in [false, true] {
             for good in 0..output.len() {
                 let out = taking(alloc, good, takes_nothing);
-                let left = leaves(&rt, alloc, line, out, taking(alloc, ample, false), false)?;
+                let left = leaves(&rt, line, out, taking_all(alloc), false)?;
                 is_cut(&rt, &left, &output[..good], errors, CANNOT_WRITE);
                 drop(left);
             }
             for good in 0..errors.len() {
                 let err = taking(alloc, good, takes_nothing);
-                let left = leaves(&rt, alloc, line, taking(alloc, ample, false), err, false)?;
+                let left = leaves(&rt, line, taking_all(alloc), err, false)?;
                 is_cut(&rt, &left, b"".as_slice(), &errors[..good], CANNOT_WRITE);
                 drop(left);
             }
         }
         let out = taking(alloc, output.len(), false);
-        let left = leaves(
-            &rt,
-            alloc,
-            line,
-            out,
-            taking(alloc, errors.len(), false),
-            false,
-        )?;
+        let left = leaves(&rt, line, out, taking(alloc, errors.len(), false), false)?;
         assert!(rt; left.output.as_slice() == output && left.errors.as_slice() == errors);
         assert!(rt; left.status == status && left.is_saved == is_saved);
         drop(left);
@@ -170,19 +139,13 @@ fn a_record_is_refused(rt: HostRuntime) -> Result<(), Fail> {
     for &(line, output, errors, saves, _) in RUNS {
         if saves {
             let (output, errors) = (output.as_bytes(), errors.as_bytes());
-            let (out, err) = (
-                taking(alloc, usize::MAX, false),
-                taking(alloc, usize::MAX, false),
-            );
-            let left = leaves(&rt, alloc, line, out, err, true)?;
+            let (out, err) = (taking_all(alloc), taking_all(alloc));
+            let left = leaves(&rt, line, out, err, true)?;
             is_cut(&rt, &left, output, errors, refused);
             drop(left);
             // a write of that line fails too, and the status is the same
-            let (out, err) = (
-                taking(alloc, usize::MAX, false),
-                taking(alloc, errors.len() + 3, false),
-            );
-            let left = leaves(&rt, alloc, line, out, err, true)?;
+            let (out, err) = (taking_all(alloc), taking(alloc, errors.len() + 3, false));
+            let left = leaves(&rt, line, out, err, true)?;
             is_cut(&rt, &left, output, errors, "can");
             drop(left);
         }
@@ -193,11 +156,8 @@ fn a_record_is_refused(rt: HostRuntime) -> Result<(), Fail> {
 #[test]
 fn a_record_is_refused_for_a_reason(rt: HostRuntime) -> Result<(), Fail> {
     let alloc = rt.alloc();
-    let (out, err) = (
-        taking(alloc, usize::MAX, false),
-        taking(alloc, usize::MAX, false),
-    );
-    let left = leaves(&rt, alloc, "run A --record S --explain", out, err, true)?;
+    let (out, err) = (taking_all(alloc), taking_all(alloc));
+    let left = leaves(&rt, "run A --record S --explain", out, err, true)?;
     let output = "42\nend quiet pending 0\n".as_bytes();
     let told = "cannot write S\nS: Read-only file system\n";
     is_cut(&rt, &left, output, b"".as_slice(), told);
@@ -213,14 +173,7 @@ fn each_write_beside_workers_fails(rt: HostRuntime) -> Result<(), Fail> {
     let line = "run A --workers 4 --watch 1 --record S";
     for good in 0..60usize {
         let err = taking(alloc, good, false);
-        let left = leaves(
-            &rt,
-            alloc,
-            line,
-            taking(alloc, usize::MAX, false),
-            err,
-            false,
-        )?;
+        let left = leaves(&rt, line, taking_all(alloc), err, false)?;
         assert!(rt; left.output.is_empty() && left.status == 1 && !left.is_saved);
         assert!(rt; left.errors.ends_with(CANNOT_WRITE.as_bytes()));
         assert!(rt; left.errors.len() == good + CANNOT_WRITE.len());
@@ -229,14 +182,7 @@ fn each_write_beside_workers_fails(rt: HostRuntime) -> Result<(), Fail> {
     let output = "42\nend quiet pending 0\n".as_bytes();
     for good in 0..output.len() {
         let out = taking(alloc, good, false);
-        let left = leaves(
-            &rt,
-            alloc,
-            line,
-            out,
-            taking(alloc, usize::MAX, false),
-            false,
-        )?;
+        let left = leaves(&rt, line, out, taking_all(alloc), false)?;
         assert!(rt;
             left.output.as_slice() == &output[..good] && left.status == 1 && !left.is_saved
         );

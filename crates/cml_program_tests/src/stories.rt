@@ -1,6 +1,6 @@
 //! Runs that are told item by item, and what is said of a schedule that can't be followed: whole answers.
 
-use crate::script_run::{Case, all_come_out};
+use crate::script_run::{Case, PLAIN, all_come_out};
 use std::test::Fail;
 
 // A thread sends a number to another, which prints it.
@@ -24,11 +24,23 @@ const CUT: &str = "schedule 1 100\nturn 0\nturn 0\nturn 0\nturn 1\nend\n";
 const WRONG: &str =
     "; one line too many\nschedule 1 100\n\nturn 0 ; makes the channel\nturn 0\nturn 0\nturn 1\nturn 1\nend\n";
 
+// The run is told.
+const STORY: Case = Case {
+    files: &[("a.cml", SCRIPT), ("S", SCHEDULE)],
+    ..PLAIN
+};
+
+// The last item can't happen.
+const UNFIT: Case = Case {
+    files: &[("a.cml", SCRIPT), ("S", WRONG)],
+    status: 3,
+    ..PLAIN
+};
+
 const TOLD: &[Case] = &[
     Case {
         name: "a story",
         words: "explain a.cml S",
-        files: &[("a.cml", SCRIPT), ("S", SCHEDULE)],
         output: "1  thread 0 main at 4:3 makes channel 0
 2  thread 0 main at 5:3 spawns thread 1 sender((chan 0))
 3  thread 0 main at 6:3 waits: receive on channel 0
@@ -38,56 +50,37 @@ const TOLD: &[Case] = &[
 7  thread 0 main ends
 8  thread 1 sender((chan 0)) ends
 ",
-        errors: "",
-        status: 0,
-        saved: &[],
+        ..STORY
     },
     Case {
         name: "a part of it",
         words: "explain a.cml S --from 4 --to 5",
-        files: &[("a.cml", SCRIPT), ("S", SCHEDULE)],
         output: "4  thread 1 sender((chan 0)) at 2:3 waits: send 42 on channel 0                           1 could happen
 5  commit: thread 1 sender((chan 0)) sends 42 on channel 0 to thread 0 main; nacks fired: none  1 could happen
 ",
-        errors: "",
-        status: 0,
-        saved: &[],
+        ..STORY
     },
     Case {
         name: "its last items",
         words: "explain a.cml S --from 8",
-        files: &[("a.cml", SCRIPT), ("S", SCHEDULE)],
         output: "8  thread 1 sender((chan 0)) ends\n",
-        errors: "",
-        status: 0,
-        saved: &[],
+        ..STORY
     },
     Case {
         name: "its first item",
         words: "explain a.cml S --to 1",
-        files: &[("a.cml", SCRIPT), ("S", SCHEDULE)],
         output: "1  thread 0 main at 4:3 makes channel 0\n",
-        errors: "",
-        status: 0,
-        saved: &[],
+        ..STORY
     },
     Case {
         name: "a part behind its end",
         words: "explain a.cml S --from 9",
-        files: &[("a.cml", SCRIPT), ("S", SCHEDULE)],
-        output: "",
-        errors: "",
-        status: 0,
-        saved: &[],
+        ..STORY
     },
     Case {
         name: "a part that ends before it begins",
         words: "explain a.cml S --from 6 --to 5",
-        files: &[("a.cml", SCRIPT), ("S", SCHEDULE)],
-        output: "",
-        errors: "",
-        status: 0,
-        saved: &[],
+        ..STORY
     },
     Case {
         name: "a story that is cut off",
@@ -98,40 +91,30 @@ const TOLD: &[Case] = &[
   thread 0 main at a.cml:6:3, in main: receive on channel 0
   thread 1 sender((chan 0)) at a.cml:2:3, in sender: send 42 on channel 0
 ",
-        errors: "",
-        status: 0,
-        saved: &[],
+        ..PLAIN
     },
     Case {
         name: "a story with an item that can't happen",
         words: "explain a.cml S",
-        files: &[("a.cml", SCRIPT), ("S", WRONG)],
         output: "1  thread 0 main at 4:3 makes channel 0
 2  thread 0 main at 5:3 spawns thread 1 sender((chan 0))
 3  thread 0 main at 6:3 waits: receive on channel 0
 4  thread 1 sender((chan 0)) at 2:3 waits: send 42 on channel 0                           1 could happen
 ",
         errors: "schedule item 5\nline 8: turn 1: thread 1 waits, so it has no turn\n",
-        status: 3,
-        saved: &[],
+        ..UNFIT
     },
     Case {
         name: "the same in a replay",
         words: "replay a.cml S --explain",
-        files: &[("a.cml", SCRIPT), ("S", WRONG)],
-        output: "",
         errors: "schedule item 5\nline 8: turn 1: thread 1 waits, so it has no turn\n",
-        status: 3,
-        saved: &[],
+        ..UNFIT
     },
     Case {
         name: "the same in a replay that is not explained",
         words: "replay a.cml S",
-        files: &[("a.cml", SCRIPT), ("S", WRONG)],
-        output: "",
         errors: "schedule item 5\n",
-        status: 3,
-        saved: &[],
+        ..UNFIT
     },
     Case {
         name: "a story that ends at a fault",
@@ -148,9 +131,7 @@ a.cml:3:3: thread 0 main ends at a fault: + takes numbers, and was given 1 and (
   |   ^^^^^^^^^^^^^^^^^^
    in main
 ",
-        errors: "",
-        status: 0,
-        saved: &[],
+        ..PLAIN
     },
     Case {
         name: "a line that is no line",
@@ -159,59 +140,51 @@ a.cml:3:3: thread 0 main ends at a fault: + takes numbers, and was given 1 and (
             ("a.cml", SCRIPT),
             ("S", "schedule 1 9\nturn 0\ncomit 2 0\nend\n"),
         ],
-        output: "",
         errors: "schedule line 3\nline 3: comit 2 0: no line of a schedule is written so here\n",
         status: 3,
-        saved: &[],
+        ..PLAIN
     },
     Case {
         name: "a schedule without its last line",
         words: "replay a.cml S --explain",
         files: &[("a.cml", SCRIPT), ("S", "schedule 1 9\nturn 0\n")],
-        output: "",
         errors: "schedule line 3\nline 3: the last line, `end`, is missing\n",
         status: 3,
-        saved: &[],
+        ..PLAIN
     },
     Case {
         name: "a schedule of another script",
         words: "explain a.cml S",
         files: &[("a.cml", SCRIPT), ("S", "schedule 2 9 1 1\nend\n")],
-        output: "",
         errors: "schedule program\n",
         status: 3,
-        saved: &[],
+        ..PLAIN
     },
     Case {
         name: "no script",
         words: "explain b.cml S",
-        files: &[("a.cml", SCRIPT), ("S", SCHEDULE)],
-        output: "",
         errors: "cannot read b.cml\nb.cml: No such file or directory\n",
         status: 1,
-        saved: &[],
+        ..STORY
     },
     Case {
         name: "no schedule",
         words: "explain a.cml R",
-        files: &[("a.cml", SCRIPT), ("S", SCHEDULE)],
-        output: "",
         errors: "cannot read R\nR: No such file or directory\n",
         status: 1,
-        saved: &[],
+        ..STORY
     },
     Case {
         name: "a script that is broken",
         words: "explain a.cml S",
         files: &[("a.cml", "(fn f () (print 1))\n"), ("S", SCHEDULE)],
-        output: "",
         errors: "check 6 main at 0\na.cml:1:1: there is no function `main`\n",
         status: 2,
-        saved: &[],
+        ..PLAIN
     },
 ];
 
 #[test]
 fn runs_are_told(rt: HostRuntime) -> Result<(), Fail> {
-    all_come_out(&rt, rt.alloc(), TOLD)
+    all_come_out(&rt, TOLD)
 }

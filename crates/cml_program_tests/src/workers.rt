@@ -1,14 +1,13 @@
 //! Scripts that workers run: what they write, and that their schedules lead to the same again.
 
 use crate::memory_store::MemoryStore;
-use crate::run::left_by;
-use crate::script_run::{ADDITION, CANCELLED, COUNTER, Case, SWAPPED, all_come_out, filled};
+use crate::run::{Runtime, left_by};
+use crate::script_run::{
+    ADDITION, BY_FOUR, CANCELLED, CANCELLED_WATCHED, COUNTER, Case, PLAIN, SWAPPED, all_come_out,
+    filled,
+};
 use cml_host::Store;
-use std::alloc::Global;
-use std::process::Abort;
-use std::sync::Wait;
 use std::test::Fail;
-use std::thread::Threads;
 
 // One thread that never ends.
 const SPINNING: &str = "(fn main () (while true (yield)))";
@@ -34,59 +33,41 @@ const CASES: &[Case] = &[
         words: "run A --workers 1",
         files: &[("A", ADDITION)],
         output: "42\nend quiet pending 0\n",
-        errors: "",
-        status: 0,
-        saved: &[],
+        ..PLAIN
     },
     Case {
         name: "addition-by-four-workers",
-        words: "run A --workers 4",
         files: &[("A", ADDITION)],
         output: "42\nend quiet pending 0\n",
-        errors: "",
-        status: 0,
-        saved: &[],
+        ..BY_FOUR
     },
     Case {
         name: "counter-by-one-worker",
         words: "run A --workers 1",
         files: &[("A", COUNTER)],
         output: "2\nend quiet pending 0\n",
-        errors: "",
-        status: 0,
-        saved: &[],
+        ..PLAIN
     },
     Case {
         name: "counter-by-four-workers",
-        words: "run A --workers 4",
         files: &[("A", COUNTER)],
         output: "2\nend quiet pending 0\n",
-        errors: "",
-        status: 0,
-        saved: &[],
+        ..BY_FOUR
     },
     Case {
         name: "counter-by-sixty-four-workers",
         words: "run A --workers 64 --seed 7",
         files: &[("A", COUNTER)],
         output: "2\nend quiet pending 0\n",
-        errors: "",
-        status: 0,
-        saved: &[],
+        ..PLAIN
     },
     Case {
         name: "cancelled-branch-watched-by-one-worker",
         words: "run A --workers 1 --watch 5",
         files: &[("A", CANCELLED)],
         output: "7\ncancelled\nend quiet pending 0\n",
-        errors: "report 5 rows 1 waiting 2
-row 0 1
-wait 0
-wait 1
-report 10 rows 0 waiting 0
-",
-        status: 0,
-        saved: &[],
+        errors: CANCELLED_WATCHED,
+        ..PLAIN
     },
     Case {
         name: "spinning-by-four-workers",
@@ -95,59 +76,48 @@ report 10 rows 0 waiting 0
         output: "end budget pending 0\n",
         errors: "report 20 rows 0 waiting 0\nreport 40 rows 0 waiting 0\n",
         status: 4,
-        saved: &[],
+        ..PLAIN
     },
     Case {
         name: "timeout-by-four-workers",
         words: "run A --workers 4 --watch 2",
         files: &[("A", WAITING)],
         output: "10\nend quiet pending 0\n",
-        errors: "report 2 rows 1 waiting 1
-row 0 0
-wait 0
-report 4 rows 0 waiting 0
-report 6 rows 0 waiting 0
-",
-        status: 0,
-        saved: &[],
+        errors: "report 2 rows 1 waiting 1\nrow 0 0\nwait 0\nreport 4 rows 0 waiting 0\nreport 6 rows 0 waiting 0\n",
+        ..PLAIN
     },
     Case {
         name: "waits-for-ever-by-four-workers",
-        words: "run A --workers 4",
         files: &[("A", STUCK)],
         output: "end quiet pending 1\n",
-        errors: "",
-        status: 0,
-        saved: &[],
+        ..BY_FOUR
     },
     Case {
         name: "fault-by-four-workers",
-        words: "run A --workers 4",
         files: &[("A", FAULTY)],
         output: "thread 0 fault put\nend quiet pending 0\n",
-        errors: "",
-        status: 0,
-        saved: &[],
+        ..BY_FOUR
     },
     Case {
         name: "work-by-four-workers",
-        words: "run A --workers 4",
         files: &[("A", WORKING)],
         output: "28\nend quiet pending 0\n",
-        errors: "",
-        status: 0,
-        saved: &[],
+        ..BY_FOUR
     },
     Case {
         name: "no-such-script-for-workers",
         words: "run B --workers 4 --watch 1 --record S",
         files: &[("A", ADDITION)],
-        output: "",
         errors: "cannot read B\n",
         status: 1,
-        saved: &[],
+        ..PLAIN
     },
 ];
+
+#[test]
+fn workers_write_what_one_thread_does(rt: HostRuntime) -> Result<(), Fail> {
+    all_come_out(&rt, CASES)
+}
 
 // Arguments to run the script in A with, and to replay what was recorded.
 const RECORDED: &[(&str, &str)] = &[
@@ -176,25 +146,22 @@ fn lines_with(text: &[u8], word: &[u8]) -> usize {
 
 // The recorded run and its replay leave the same, with a report for each five items where they are asked for.
 fn leads_again(
-    rt: &(impl Abort + Threads + Wait + Sync),
-    alloc: Global,
+    rt: &impl Runtime,
     script: &'static str,
     (run, replay): (&str, &str),
 ) -> Result<(), Fail> {
-    let mut store = filled(rt, alloc, &[("A", script)]);
-    let ran = left_by(rt, alloc, run, "", &mut store)?;
-    let again = left_by(rt, alloc, replay, "", &mut store)?;
-    assert!(rt;
-        ran.output.as_slice() == again.output.as_slice(),
-        "output of {run}"
+    let mut store = filled(rt, &[("A", script)]);
+    let ran = left_by(rt, run, "", &mut store)?;
+    let again = left_by(rt, replay, "", &mut store)?;
+    again.is_bytes(
+        rt,
+        run,
+        ran.output.as_slice(),
+        ran.errors.as_slice(),
+        ran.status,
     );
-    assert!(rt;
-        ran.errors.as_slice() == again.errors.as_slice(),
-        "errors of {run}"
-    );
-    assert!(rt; ran.status == again.status, "status of {run}");
     if run.contains("--watch 5") {
-        match store.load(alloc, "S", 1_000_000) {
+        match store.load(rt.alloc(), "S", 1_000_000) {
             Ok(schedule) => {
                 let items = lines_with(schedule.as_slice(), b"").saturating_sub(3);
                 let reports = lines_with(ran.errors.as_slice(), b"report ");
@@ -211,15 +178,10 @@ fn leads_again(
 }
 
 #[test]
-fn workers_write_what_one_thread_does(rt: HostRuntime) -> Result<(), Fail> {
-    all_come_out(&rt, rt.alloc(), CASES)
-}
-
-#[test]
 fn schedules_of_workers_lead_to_the_same_again(rt: HostRuntime) -> Result<(), Fail> {
     for script in [ADDITION, CANCELLED, COUNTER, SWAPPED, WAITING, WORKING] {
         for words in RECORDED {
-            leads_again(&rt, rt.alloc(), script, *words)?;
+            leads_again(&rt, script, *words)?;
         }
     }
     Ok(())

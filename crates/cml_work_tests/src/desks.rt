@@ -127,15 +127,17 @@ fn bench_that(rt: &(impl Abort + AllocGlobal), refuses: Refuses) -> Bench {
     }
 }
 
+// So often the desk was asked for a machine, and so often it was stopped.
+fn is_left(rt: &impl Abort, bench: &Bench, asked: u64, stopped: u64) {
+    assert!(rt; bench.handed.load(Ordering::SeqCst) == asked, "asked");
+    assert!(rt; bench.stopped.load(Ordering::SeqCst) == stopped, "stopped");
+}
+
 #[test]
 fn a_stranger_is_dropped_and_the_worker_goes_on(rt: HostRuntime) {
     let bench = bench_that(&rt, Refuses::Strangers);
     worker(&rt, rt.alloc(), &bench, &bench).expect(&rt, MEMORY);
-    assert!(rt;
-        bench.handed.load(Ordering::SeqCst) == 4,
-        "all were handed out"
-    );
-    assert!(rt; bench.stopped.load(Ordering::SeqCst) == 0, "not stopped");
+    is_left(&rt, &bench, 4, 0);
 }
 
 #[test]
@@ -143,21 +145,14 @@ fn a_worker_stops_the_desk_where_memory_is_lost(rt: HostRuntime) {
     let bench = bench_that(&rt, Refuses::ForMemory);
     let answer = worker(&rt, rt.alloc(), &bench, &bench);
     assert!(rt; answer.is_err(), "memory was lost");
-    assert!(rt;
-        bench.handed.load(Ordering::SeqCst) == 1,
-        "no more was asked"
-    );
-    assert!(rt; bench.stopped.load(Ordering::SeqCst) == 1, "stopped");
+    is_left(&rt, &bench, 1, 1);
 }
 
 #[test]
 fn a_worker_runs_what_it_is_handed(rt: HostRuntime) {
     let bench = bench_that(&rt, Refuses::Nothing);
     worker(&rt, rt.alloc(), &bench, &bench).expect(&rt, MEMORY);
-    assert!(rt;
-        bench.handed.load(Ordering::SeqCst) == 4,
-        "asked until there was none"
-    );
+    is_left(&rt, &bench, 4, 0);
     for place in 0..3usize {
         let entered = bench.entered[place].load(Ordering::SeqCst);
         let given = bench.given[place].load(Ordering::SeqCst);
@@ -167,5 +162,4 @@ fn a_worker_runs_what_it_is_handed(rt: HostRuntime) {
         );
         assert!(rt; given == 2 + 2 * place as u64, "when {place} came back");
     }
-    assert!(rt; bench.stopped.load(Ordering::SeqCst) == 0, "not stopped");
 }

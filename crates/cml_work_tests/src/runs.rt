@@ -19,28 +19,32 @@ use std::thread;
 use std::time::Duration;
 
 // Two threads that never end.
-const SPIN: &str =
-    "(fn spin () (while true (yield))) (fn main () (spawn spin) (while true (yield)))";
+const SPIN: &str = "(fn spin () (while true (yield))) \
+     (fn main () (spawn spin) (while true (yield)))";
 
 // Two threads that yield sixty times, and then compute for ever.
 const LONG_AFTER_SHORT: &str =
-    "(fn work () (let i 0) (while (< i 60) (yield) (set i (+ i 1))) (while true (set i (- i 1)))) (fn main () (spawn work) (call work))";
+    "(fn work () (let i 0) (while (< i 60) (yield) (set i (+ i 1))) (while true (set i (- i 1)))) \
+     (fn main () (spawn work) (call work))";
 
 // An M-variable is a lock around another, to which four threads add.
 const TOTAL: &str =
-    "(fn add (lock total amount) (sync (mtake lock)) (let old (sync (mget total))) (yield) (sync (mswap total (+ old amount))) (mput lock unit)) (fn main () (let lock (mvar unit)) (let total (mvar 0)) (let a (spawn add lock total 1)) (let b (spawn add lock total 20)) (let c (spawn add lock total 300)) (let d (spawn add lock total 4000)) (sync (join a)) (sync (join b)) (sync (join c)) (sync (join d)) (let sum (sync (mget total))) (print sum))";
+    "(fn add (lock total amount) (sync (mtake lock)) (let old (sync (mget total))) (yield) (sync (mswap total (+ old amount))) (mput lock unit)) \
+     (fn main () (let lock (mvar unit)) (let total (mvar 0)) (let a (spawn add lock total 1)) (let b (spawn add lock total 20)) (let c (spawn add lock total 300)) (let d (spawn add lock total 4000)) (sync (join a)) (sync (join b)) (sync (join c)) (sync (join d)) (let sum (sync (mget total))) (print sum))";
 
 // Many threads print.
 const PRINTS: &str =
-    "(fn tell (n) (let i 0) (while (< i 5) (print (pair n i)) (yield) (set i (+ i 1)))) (fn main () (let n 0) (while (< n 8) (spawn tell n) (set n (+ n 1))))";
+    "(fn tell (n) (let i 0) (while (< i 5) (print (pair n i)) (yield) (set i (+ i 1)))) \
+     (fn main () (let n 0) (while (< n 8) (spawn tell n) (set n (+ n 1))))";
 
 // One thread sends to another.
-const SENDS: &str =
-    "(fn give (c) (let i 0) (while (< i 20) (sync (send c i)) (set i (+ i 1)))) (fn main () (let c (chan)) (spawn give c) (let i 0) (while (< i 20) (let x (sync (recv c))) (print x) (set i (+ i 1))))";
+const SENDS: &str = "(fn give (c) (let i 0) (while (< i 20) (sync (send c i)) (set i (+ i 1)))) \
+     (fn main () (let c (chan)) (spawn give c) (let i 0) (while (< i 20) (let x (sync (recv c))) (print x) (set i (+ i 1))))";
 
 // A branch that is not chosen learns of it.
-const CANCELLED: &str =
-    "(fn watch (n) (sync n) (print \"cancelled\")) (fn branch (c n) (spawn watch n) (return (recv c))) (fn main () (let c (chan)) (let x (sync (choose (withnack branch c) (always 7)))) (print x))";
+const CANCELLED: &str = "(fn watch (n) (sync n) (print \"cancelled\")) \
+     (fn branch (c n) (spawn watch n) (return (recv c))) \
+     (fn main () (let c (chan)) (let x (sync (choose (withnack branch c) (always 7)))) (print x))";
 
 const SCRIPTS: [(&str, End); 5] = [
     (SPIN, End::Budget),
