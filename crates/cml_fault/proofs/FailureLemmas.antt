@@ -2,11 +2,13 @@
 use Rattle.std.proofs.Common.{◌≡◌, ◌≢◌, ℕ, ◌+◌, ◌<◌, ◌≤◌, Bool, true, false, cond, List, [], ◌∷◌, ◌++◌, length}
 use Rattle.std.proofs.Common.{get_or, take, drop, Option, Some, None, refl, sym, ap, subst, ◌∙◌, arith}
 use Rattle.std.proofs.Common.{append_assoc, append-nil, zero-add}
-use Rattle.std.specs.Prelude.{if◌then◌else◌, option_and_then, option_map, slice_get, count_by}
+use Rattle.std.specs.Prelude.{option_and_then, option_map, slice_get, count_by, Result, Ok, Err, OnOk}
 use Rattle.std.specs.Option.{option_to_list}
-use Rattle.std.proofs.lemmas.List.{take-append-drop, take-append-le, take_all, drop_more, length-append, length_push}
+use Rattle.std.proofs.lemmas.List.{take-append-le, take_all, length-append, length_push}
 use Rattle.std.proofs.lemmas.List.Sums.{sum_by-cons}
 use Rattle.cml_check.specs.Syntax.{PlainItem}
+use Rattle.cml_step.specs.Calls.{text_of}
+use Rattle.cml_step.specs.Machines.{PlainMachine, machine_term}
 use Rattle.cml_step.specs.Terms.{Program, Term}
 use Rattle.cml_step.specs.Slices.{sliced}
 use Rattle.cml_schedule.specs.declared.item.Item.{Item}
@@ -14,9 +16,12 @@ use Rattle.cml_schedule.specs.declared.item.Item.TheVariants.{Turn, Meet, Exchan
 use Rattle.cml_value.specs.declared.number.Tid.{Tid}
 use Rattle.cml_hub.specs.Performed.{PlainDone, performed}
 use Rattle.cml_hub.specs.Deeds.{deed, after_deed, deeds_from, is_fault, fault_count}
-use Rattle.cml_hub.specs.Runs.{Run, opening, advance, after_item, is_allowed, stands_from, stands}
+use Rattle.cml_hub.specs.Runs.{Run, opening, advance, stands_from, stands}
+use Rattle.cml_hub.specs.Courses.{PlainCourse, run_of}
 use Rattle.cml_fault.specs.Failures.{Failure, failure_of, failure_if, failure_from, failure_by, failures_from, failures, block_limit, first_failures}
+use Rattle.cml_fault.specs.Failed.{FailsBy, FailsSo}
 use Rattle.cml_fault.specs.Blocks.{Known, IsBlock, AreBlocks}
+use Rattle.cml_fault.specs.Views.{IsAdded}
 
 -- one item more
 failures_from-push : (p : Program) (r : Option Run) (items : List Item) (item : Item) →
@@ -77,20 +82,22 @@ pub no_faults : (k : Known) (p : List (PlainItem ℕ)) (text : Program) (items :
 no_faults k p text items none = no_blocks k p (failures text items) (sym none ∙ counted text items)
 
 -- one block more
-pub blocks-push : (k : Known) (p : List (PlainItem ℕ)) (fs : List Failure) (f : Failure) (old added : List ℕ) → AreBlocks k p fs old → IsBlock k p f added → AreBlocks k p (fs ++ f ∷ []) (old ++ added)
+blocks-push : (k : Known) (p : List (PlainItem ℕ)) (fs : List Failure) (f : Failure) (old added : List ℕ) → AreBlocks k p fs old → IsBlock k p f added → AreBlocks k p (fs ++ f ∷ []) (old ++ added)
 blocks-push k p [] f old added are is = (added, [], ap (λ x. x ++ added) are ∙ sym (append-nil added), is, refl)
 blocks-push k p (g ∷ fs) f old added (first, rest, split, block, are) is =
     (first, rest ++ added, ap (λ x. x ++ added) split ∙ append_assoc first rest added, block, blocks-push k p fs f rest added are is)
 
--- an item by which no thread fails
+-- ---- what an item makes of the failures
+
+-- the list is as long as it was: nothing was added
 still_nothing : (fs gs : List Failure) → length (fs ++ gs) ≡ length fs → gs ≡ []
 still_nothing [] [] e = refl
 still_nothing [] (g ∷ gs) e = absurd (omega (arith, e))
 still_nothing (f ∷ fs) gs e = still_nothing fs gs (omega (arith, e))
 
-nobody_by : (p : Program) (items : List Item) (item : Item) (now : Run) → stands p items ≡ Some now → fault_count p (items ++ item ∷ []) ≡ fault_count p items →
+pub fails_not : (p : Program) (items : List Item) (item : Item) (now : Run) → stands p items ≡ Some now → fault_count p (items ++ item ∷ []) ≡ fault_count p items →
     failures p (items ++ item ∷ []) ≡ failures p items
-nobody_by p items item now leads same =
+fails_not p items item now leads same =
     let gs = option_to_list (failure_by p now item) in
     let grown : failures p (items ++ item ∷ []) ≡ failures p items ++ gs = failures-push p items item now leads in
     let counts : length (failures p items ++ gs) ≡ length (failures p items) =
@@ -98,49 +105,47 @@ nobody_by p items item now leads same =
     let none : gs ≡ [] = still_nothing (failures p items) gs counts in
     grown ∙ (ap (λ x. failures p items ++ x) none ∙ append-nil (failures p items))
 
-pub nobody_more : (k : Known) (p : List (PlainItem ℕ)) (text : Program) (items : List Item) (item : Item) (now : Run) (shown : List ℕ) → stands text items ≡ Some now →
-    fault_count text (items ++ item ∷ []) ≡ fault_count text items →
-    AreBlocks k p (first_failures text items) shown → AreBlocks k p (first_failures text (items ++ item ∷ [])) shown
-nobody_more k p text items item now shown leads same are =
-    subst (λ fs. AreBlocks k p (take block_limit fs) shown) (sym (nobody_by text items item now leads same)) are
-
 -- nothing but a turn has a thread fail
-pub none_by : (k : Known) (p : List (PlainItem ℕ)) (text : Program) (items : List Item) (item : Item) (now : Run) (shown : List ℕ) → stands text items ≡ Some now →
-    failure_by text now item ≡ None →
-    AreBlocks k p (first_failures text items) shown → AreBlocks k p (first_failures text (items ++ item ∷ [])) shown
-none_by k p text items item now shown leads none are =
-    let all : failures text items ≡ failures text (items ++ item ∷ []) =
-    sym (append-nil (failures text items)) ∙ (ap (λ x. failures text items ++ option_to_list x) (sym none) ∙ sym (failures-push text items item now leads)) in
-    subst (λ fs. AreBlocks k p (take block_limit fs) shown) all are
-
--- enough of them are told
-pub past_limit : (k : Known) (p : List (PlainItem ℕ)) (text : Program) (items : List Item) (item : Item) (now : Run) (shown : List ℕ) → stands text items ≡ Some now →
-    block_limit ≤ fault_count text items →
-    AreBlocks k p (first_failures text items) shown → AreBlocks k p (first_failures text (items ++ item ∷ [])) shown
-past_limit k p text items item now shown leads enough are =
-    let fs = failures text items in
-    let gs = option_to_list (failure_by text now item) in
-    let many : block_limit ≤ length fs = omega (arith, counted text items, enough) in
-    let first : first_failures text (items ++ item ∷ []) ≡ take block_limit fs = ap (take block_limit) (failures-push text items item now leads) ∙ take-append-le block_limit fs gs many in
-    subst (λ xs. AreBlocks k p xs shown) (sym first) are
+pub fails_by_none : (p : Program) (items : List Item) (item : Item) (now : Run) → stands p items ≡ Some now → failure_by p now item ≡ None → failures p (items ++ item ∷ []) ≡ failures p items
+fails_by_none p items item now leads none =
+    failures-push p items item now leads ∙ (ap (λ x. failures p items ++ option_to_list x) none ∙ append-nil (failures p items))
 
 -- a turn by which its thread fails
 fails_so : (b : Bool) (f : Failure) (fs : List Failure) → length (fs ++ option_to_list (failure_if b f)) ≢ length fs → failure_if b f ≡ Some f
 fails_so true f fs e = refl
 fails_so false f fs e = absurd (e (ap length (append-nil fs)))
 
-one_by : (text : Program) (items : List Item) (t : Tid) (now : Run) (term : Term) → stands text items ≡ Some now →
-    slice_get now.terms t.0 ≡ Some term → fault_count text (items ++ Turn t ∷ []) ≢ fault_count text items →
-    failures text (items ++ Turn t ∷ []) ≡ failures text items ++ failure_of text t.0 term ∷ []
-one_by text items t now term leads there grew =
-    let f = failure_of text t.0 term in
-    let by : failure_by text now (Turn t) ≡ failure_from text now t.0 term = ap (option_and_then (failure_from text now t.0)) there in
-    let grown : failures text (items ++ Turn t ∷ []) ≡ failures text items ++ option_to_list (failure_from text now t.0 term) =
-    failures-push text items (Turn t) now leads ∙ ap (λ o. failures text items ++ option_to_list o) by in
-    let more : length (failures text items ++ option_to_list (failure_from text now t.0 term)) ≢ length (failures text items) =
-    (λ same. grew (counted text (items ++ Turn t ∷ []) ∙ (ap length grown ∙ (same ∙ sym (counted text items))))) in
-    let some : failure_from text now t.0 term ≡ Some f = fails_so (is_fault (performed now.world t.0 (sliced text t.0 term).ask).1) f (failures text items) more in
-    grown ∙ ap (λ o. failures text items ++ option_to_list o) some
+pub fails_by_turn : (p : Program) (items : List Item) (t : Tid) (now : Run) (term : Term) → stands p items ≡ Some now →
+    slice_get now.terms t.0 ≡ Some term → fault_count p (items ++ Turn t ∷ []) ≢ fault_count p items →
+    failures p (items ++ Turn t ∷ []) ≡ failures p items ++ failure_of p t.0 term ∷ []
+fails_by_turn p items t now term leads there grew =
+    let f = failure_of p t.0 term in
+    let by : failure_by p now (Turn t) ≡ failure_from p now t.0 term = ap (option_and_then (failure_from p now t.0)) there in
+    let grown : failures p (items ++ Turn t ∷ []) ≡ failures p items ++ option_to_list (failure_from p now t.0 term) =
+    failures-push p items (Turn t) now leads ∙ ap (λ o. failures p items ++ option_to_list o) by in
+    let more : length (failures p items ++ option_to_list (failure_from p now t.0 term)) ≢ length (failures p items) =
+    (λ same. grew (counted p (items ++ Turn t ∷ []) ∙ (ap length grown ∙ (same ∙ sym (counted p items))))) in
+    let some : failure_from p now t.0 term ≡ Some f = fails_so (is_fault (performed now.world t.0 (sliced p t.0 term).ask).1) f (failures p items) more in
+    grown ∙ ap (λ o. failures p items ++ option_to_list o) some
+
+-- ---- what an item makes of the blocks
+
+-- no thread failed
+pub none_told : (k : Known) (p : List (PlainItem ℕ)) (c : PlainCourse) (item : Item) (shown : List ℕ) → FailsSo c item None →
+    AreBlocks k p (first_failures (text_of c.program) c.items) shown → AreBlocks k p (first_failures (text_of c.program) (c.items ++ item ∷ [])) shown
+none_told k p c item shown same are = subst (λ fs. AreBlocks k p (take block_limit fs) shown) (sym same) are
+
+-- enough of them are told
+pub past_told : (k : Known) (p : List (PlainItem ℕ)) (c : PlainCourse) (item : Item) (before : ℕ) (shown : List ℕ) → stands (text_of c.program) c.items ≡ Some (run_of c) →
+    before ≡ fault_count (text_of c.program) c.items → block_limit ≤ before →
+    AreBlocks k p (first_failures (text_of c.program) c.items) shown → AreBlocks k p (first_failures (text_of c.program) (c.items ++ item ∷ [])) shown
+past_told k p c item before shown leads was enough are =
+    let text = text_of c.program in
+    let fs = failures text c.items in
+    let many : block_limit ≤ length fs = subst (λ n. block_limit ≤ n) (was ∙ counted text c.items) enough in
+    let first : first_failures text (c.items ++ item ∷ []) ≡ take block_limit fs =
+    ap (take block_limit) (failures-push text c.items item (run_of c) leads) ∙ take-append-le block_limit fs (option_to_list (failure_by text (run_of c) item)) many in
+    subst (λ xs. AreBlocks k p xs shown) (sym first) are
 
 -- there is room for one more
 first_more : (k : Known) (p : List (PlainItem ℕ)) (fs : List Failure) (f : Failure) (old added : List ℕ) → length fs < block_limit → AreBlocks k p (take block_limit fs) old → IsBlock k p f added →
@@ -150,33 +155,15 @@ first_more k p fs f old added room are is =
     let after : take block_limit (fs ++ f ∷ []) ≡ fs ++ f ∷ [] = take_all block_limit (fs ++ f ∷ []) (omega (arith, room, length_push fs f)) in
     subst (λ xs. AreBlocks k p xs (old ++ added)) (sym after) (blocks-push k p fs f old added (subst (λ xs. AreBlocks k p xs old) before are) is)
 
-pub one_more : (k : Known) (p : List (PlainItem ℕ)) (text : Program) (items : List Item) (t : Tid) (now : Run) (term : Term) (old added : List ℕ) → stands text items ≡ Some now →
-    slice_get now.terms t.0 ≡ Some term → fault_count text (items ++ Turn t ∷ []) ≢ fault_count text items → fault_count text items < block_limit → IsBlock k p (failure_of text t.0 term) added →
-    AreBlocks k p (first_failures text items) old → AreBlocks k p (first_failures text (items ++ Turn t ∷ [])) (old ++ added)
-one_more k p text items t now term old added leads there grew room is are =
-    let few : length (failures text items) < block_limit = omega (arith, counted text items, room) in
-    subst (λ fs. AreBlocks k p (take block_limit fs) (old ++ added)) (sym (one_by text items t now term leads there grew))
-    (first_more k p (failures text items) (failure_of text t.0 term) old added few are is)
-
--- a schedule that leads somewhere is allowed at each of its items
-stands_from-none : (p : Program) (items : List Item) → stands_from p None items ≡ None
-stands_from-none p [] = refl
-stands_from-none p (item ∷ items) = stands_from-none p items
-
-stands_from-append : (p : Program) (r : Option Run) (before after : List Item) → stands_from p r (before ++ after) ≡ stands_from p (stands_from p r before) after
-stands_from-append p r [] after = refl
-stands_from-append p r (item ∷ before) after = stands_from-append p (option_and_then (λ now. advance p now item) r) before after
-
-goes_on : (p : Program) (b : Bool) (next : Option Run) (rest : List Item) (end : Run) → stands_from p (if b then next else None) rest ≡ Some end → b ≡ true
-goes_on p true next rest end e = refl
-goes_on p false next rest end e = let none = stands_from-none p rest in cc
-
-pub is_next_allowed : (p : Program) (items : List Item) (i : ℕ) (item : Item) (end now : Run) → i < length items → item ≡ get_or items i item →
-    stands p items ≡ Some end → stands p (take i items) ≡ Some now → is_allowed now.world item ≡ true
-is_next_allowed p items i item end now h is whole so_far =
-    let split : take i items ++ item ∷ drop (i + 1) items ≡ items =
-    ap (λ x. take i items ++ x ∷ drop (i + 1) items) is ∙ (ap (λ rest. take i items ++ rest) (sym (drop_more items i item h)) ∙ take-append-drop i items) in
-    let both : stands_from p (stands p (take i items)) (item ∷ drop (i + 1) items) ≡ Some end =
-    sym (stands_from-append p (Some (opening p)) (take i items) (item ∷ drop (i + 1) items)) ∙ (ap (stands p) split ∙ whole) in
-    let on : stands_from p (Some now) (item ∷ drop (i + 1) items) ≡ Some end = ap (λ r. stands_from p r (item ∷ drop (i + 1) items)) (sym so_far) ∙ both in
-    goes_on p (is_allowed now.world item) (after_item p now item) (drop (i + 1) items) end on
+pub one_told : {T E : Type 0} (r : Result T E) (k : Known) (c : PlainCourse) (p : List (PlainItem ℕ)) (item : Item) (m : PlainMachine) (before : ℕ) (o n : List ℕ) →
+    c.program ≡ p → before ≡ fault_count (text_of c.program) c.items → before < block_limit → FailsBy c item m →
+    OnOk r (IsAdded (IsBlock k p (failure_of (text_of p) m.thread (machine_term p m))) o n) →
+    OnOk r (AreBlocks k c.program (first_failures (text_of c.program) c.items) o → AreBlocks k c.program (first_failures (text_of c.program) (c.items ++ item ∷ [])) n)
+one_told (Ok x) k c p item m before o n here was room fell one = λ are.
+    let fs = failures (text_of c.program) c.items in
+    let f = failure_of (text_of c.program) m.thread (machine_term c.program m) in
+    let few : length fs < block_limit = subst (λ n. n < block_limit) (was ∙ counted (text_of c.program) c.items) room in
+    let added : IsAdded (IsBlock k c.program f) o n = subst (λ q. IsAdded (IsBlock k q (failure_of (text_of q) m.thread (machine_term q m))) o n) (sym here) one in
+    subst (λ xs. AreBlocks k c.program (take block_limit xs) n) (sym fell.one_more)
+    (subst (AreBlocks k c.program (take block_limit (fs ++ f ∷ []))) (sym added.text_is) (first_more k c.program fs f o added.added few are added.is))
+one_told (Err y) k c p item m before o n here was room fell one = tt

@@ -5,23 +5,30 @@ use Rattle.std.specs.List.{filter_map, cons_option}
 use Rattle.std.proofs.lemmas.List.{length_push, reverse-append}
 use Rattle.std.proofs.lemmas.Option.{slice_get_read}
 use Rattle.cml_check.specs.Syntax.{PlainItem}
-use Rattle.cml_step.specs.Machines.{PlainHeld}
+use Rattle.cml_step.specs.Machines.{PlainHeld, call, force, wraps}
+use Rattle.cml_ending.specs.Standings.{as_call}
 use Rattle.cml_fault.specs.declared.frame.Frame.{Frame}
 use Rattle.cml_fault.specs.Frames.{only_call, calls_down, IsFrame}
+
+-- a call is the same, whichever word says so
+same_call : (h : PlainHeld) → only_call h ≡ as_call h
+same_call (call f at slots w) = refl
+same_call (force g asked) = refl
+same_call (wraps fs v) = refl
 
 -- the last entry is looked at first
 calls_down-push : (new : List PlainHeld) (h : PlainHeld) → calls_down (new ++ h ∷ []) ≡ cons_option (only_call h) (calls_down new)
 calls_down-push new h = ap (filter_map only_call) (reverse-append new (h ∷ []))
 
-pub is_call : (old new : List PlainHeld) (h c : PlainHeld) (cs all : List PlainHeld) → old ≡ new ++ h ∷ [] → cs ++ calls_down old ≡ all → only_call h ≡ Some c → (cs ++ c ∷ []) ++ calls_down new ≡ all
+pub is_call : (old new : List PlainHeld) (h c : PlainHeld) (cs all : List PlainHeld) → old ≡ new ++ h ∷ [] → cs ++ calls_down old ≡ all → as_call h ≡ Some c → (cs ++ c ∷ []) ++ calls_down new ≡ all
 is_call old new h c cs all split so_far is =
     append_assoc cs (c ∷ []) (calls_down new)
-    ∙ (ap (λ x. cs ++ cons_option x (calls_down new)) (sym is)
+    ∙ (ap (λ x. cs ++ cons_option x (calls_down new)) (sym (same_call h ∙ is))
     ∙ (ap (λ x. cs ++ x) (sym (calls_down-push new h)) ∙ (ap (λ x. cs ++ calls_down x) (sym split) ∙ so_far)))
 
-pub no_call : (old new : List PlainHeld) (h : PlainHeld) (cs all : List PlainHeld) → old ≡ new ++ h ∷ [] → cs ++ calls_down old ≡ all → only_call h ≡ None → cs ++ calls_down new ≡ all
+pub no_call : (old new : List PlainHeld) (h : PlainHeld) (cs all : List PlainHeld) → old ≡ new ++ h ∷ [] → cs ++ calls_down old ≡ all → as_call h ≡ None → cs ++ calls_down new ≡ all
 no_call old new h cs all split so_far is =
-    ap (λ x. cs ++ cons_option x (calls_down new)) (sym is)
+    ap (λ x. cs ++ cons_option x (calls_down new)) (sym (same_call h ∙ is))
     ∙ (ap (λ x. cs ++ x) (sym (calls_down-push new h)) ∙ (ap (λ x. cs ++ calls_down x) (sym split) ∙ so_far))
 
 pub through : (old : List PlainHeld) (cs all : List PlainHeld) → old ≡ [] → cs ++ calls_down old ≡ all → cs ≡ all

@@ -1,4 +1,5 @@
 pub mod Failures
+pub mod Failed
 pub mod Frames
 pub mod VariableLines
 pub mod Blocks

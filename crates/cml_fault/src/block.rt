@@ -1,7 +1,6 @@
 //! What is said of a thread that ended at a fault.
 
 ghost use Rattle.std.specs.{Prelude.{◌≡◌, ◌++◌, ℕ, List, IfOk, OnOk, IfSome, Some, None, length, slice_get}, Option.{option_and_then, option_map}};
-ghost use Rattle.std.specs.Fmt.{decimal};
 ghost use Rattle.cml_step.specs.{Calls.{text_of}, Machines.{machine_term, Fits}, AskViews.{plain_ask}, Answers.{top_await}};
 ghost use Rattle.cml_step.specs.Answers as answers;
 ghost use Rattle.cml_fault.specs.{Blocks.{IsBlock, IsToldOf}, Failures.{failure_of}, Views.{plain_sources, IsAdded}};
@@ -9,6 +8,7 @@ ghost use Rattle.cml_fault.specs.Blocks as spec;
 
 use crate::frame::{Frame, calls_down, first_values, frames_of};
 use crate::variable::push_variables;
+use cml_ending::push_number;
 use cml_hub::Hub;
 use cml_phrase::{
     Place, Who, function_name, push_place, push_thread, slot_names, statement_place,
@@ -27,6 +27,8 @@ const FRAME_LIMIT: usize = 10;
 /// What is known.
 #[derive(Clone, Copy)]
 pub(crate) struct Sources<'a> {
+    /// Where memory comes from.
+    pub(crate) alloc: Global,
     /// The name of the script's file.
     pub(crate) name: &'a str,
     /// The script's text.
@@ -39,56 +41,35 @@ pub(crate) struct Sources<'a> {
     pub(crate) hub: &'a Hub,
 }
 
-/// Appends a number.
-pub(crate) fn push_number(alloc: Global, out: &mut Vec<u8>, number: usize) -> Result<(), AllocError>
-    ensures { OnOk result (out.new.items ≡ out.old.items ++ decimal number) }
-{
-    let digits = format!(in alloc; "{number}")?;
-    out.extend_from_slice(digits.as_bytes())
-}
-
 // Where the statement of a frame stands.
-fn frame_span(
-    alloc: Global,
-    sources: &Sources<'_>,
-    frame: Frame,
-) -> Result<Option<Span>, AllocError>
+fn frame_span(sources: &Sources<'_>, frame: Frame) -> Result<Option<Span>, AllocError>
     ensures { IfOk result (λ span. span ≡ spec.frame_span (plain_sources sources.now) frame) }
 {
     let Some(statement) = frame.statement else {
         return Ok(None);
     };
-    let spans = statement_spans(alloc, sources.forms, frame.function)?;
+    let spans = statement_spans(sources.alloc, sources.forms, frame.function)?;
     Ok(spans.get(statement).copied())
 }
 
-// The same of the frame of this number.
-fn span_at(
-    alloc: Global,
-    sources: &Sources<'_>,
-    frames: &[Frame],
-    at: usize,
-) -> Result<Option<Span>, AllocError>
+// Where the statement of frame number `at` stands, if there is such a frame.
+fn span_at(sources: &Sources<'_>, frames: &[Frame], at: usize) -> Result<Option<Span>, AllocError>
     ensures { IfOk result (λ span. span
         ≡ option_and_then (spec.frame_span (plain_sources sources.now)) (slice_get frames.now at)) }
 {
     match frames.get(at) {
-        Some(frame) => frame_span(alloc, sources, *frame),
+        Some(frame) => frame_span(sources, *frame),
         None => Ok(None),
     }
 }
 
 // The statement that is shown: that of the first frame, or where it has none, of the one below it, which called it.
-fn shown_span(
-    alloc: Global,
-    sources: &Sources<'_>,
-    frames: &[Frame],
-) -> Result<Option<Span>, AllocError>
+fn shown_span(sources: &Sources<'_>, frames: &[Frame]) -> Result<Option<Span>, AllocError>
     ensures { IfOk result (λ span. span ≡ spec.shown_span (plain_sources sources.now) frames.now) }
 {
-    match span_at(alloc, sources, frames, 0)? {
+    match span_at(sources, frames, 0)? {
         Some(span) => Ok(Some(span)),
-        None => span_at(alloc, sources, frames, 1),
+        None => span_at(sources, frames, 1),
     }
 }
 
@@ -102,12 +83,7 @@ fn first_place(sources: &Sources<'_>, frames: &[Frame]) -> Option<Place>
 }
 
 // Appends a thread, with the function with which it began.
-fn push_who(
-    alloc: Global,
-    out: &mut Vec<u8>,
-    sources: &Sources<'_>,
-    thread: Tid,
-) -> Result<(), AllocError>
+fn push_who(out: &mut Vec<u8>, sources: &Sources<'_>, thread: Tid) -> Result<(), AllocError>
     ensures { OnOk result (out.new.items ≡ out.old.items
         ++ spec.who_words (plain_sources sources.now) thread.0) }
 {
@@ -115,47 +91,36 @@ fn push_who(
         thread,
         began: sources.hub.origin(thread),
     };
-    push_thread(alloc, out, sources.forms, who)
+    push_thread(sources.alloc, out, sources.forms, who)
 }
 
-// Who is at fault, and why: the thread of this machine, which asks for this by its next step.
-fn fault_words(
-    alloc: Global,
-    sources: &Sources<'_>,
-    machine: &Machine,
-    ask: &Ask,
-) -> Result<Vec<u8>, AllocError>
+// Who is at fault, and why: the thread of `machine`, whose next step makes the request `ask`.
+fn fault_words(sources: &Sources<'_>, machine: &Machine, ask: &Ask) -> Result<Vec<u8>, AllocError>
     ensures { let p = sources.now.hub.now.course.program in
         IfOk result (λ words. words.items ≡ spec.thread_fault (plain_sources sources.now) p machine.now (plain_ask ask.now)) }
 {
-    let mut out = Vec::new(alloc);
-    push_who(alloc, &mut out, sources, machine.thread())?;
+    let mut out = Vec::new(sources.alloc);
+    push_who(&mut out, sources, machine.thread())?;
     out.extend_from_slice(b" ends at a fault: ")?;
-    push_reason(alloc, &mut out, sources.hub.program(), machine, ask)?;
+    push_reason(sources.alloc, &mut out, sources.hub.program(), machine, ask)?;
     Ok(out)
 }
 
 // These words at their place, with the line.
-fn shown_at(
-    alloc: Global,
-    sources: &Sources<'_>,
-    words: Vec<u8>,
-    span: Span,
-) -> Result<Vec<u8>, AllocError>
+fn shown_at(sources: &Sources<'_>, words: Vec<u8>, span: Span) -> Result<Vec<u8>, AllocError>
     ensures { IfOk result (λ shown. shown.items ≡ spec.head_lines (plain_sources sources.now) words.items (Some span)) }
 {
     let diagnosis = Diagnosis {
         at: span.start,
         marked_to: Some(span.end),
         message: words,
-        notes: Vec::new(alloc),
+        notes: Vec::new(sources.alloc),
     };
-    render(alloc, sources.name, sources.text, &diagnosis)
+    render(sources.alloc, sources.name, sources.text, &diagnosis)
 }
 
 // Appends these words, at their place where there is one.
 fn push_head(
-    alloc: Global,
     out: &mut Vec<u8>,
     sources: &Sources<'_>,
     words: Vec<u8>,
@@ -166,7 +131,7 @@ fn push_head(
 {
     match span {
         Some(span) => {
-            let shown = shown_at(alloc, sources, words, span)?;
+            let shown = shown_at(sources, words, span)?;
             out.extend_from_slice(shown.as_slice())
         }
         None => {
@@ -178,7 +143,6 @@ fn push_head(
 
 // Appends where a function was called, if that is known.
 fn push_called(
-    alloc: Global,
     out: &mut Vec<u8>,
     sources: &Sources<'_>,
     place: Option<Place>,
@@ -189,7 +153,7 @@ fn push_called(
     match place {
         Some(place) => {
             out.extend_from_slice(b", called at ")?;
-            push_place(alloc, out, sources.name, place)
+            push_place(sources.alloc, out, sources.name, place)
         }
         None => Ok(()),
     }
@@ -197,7 +161,6 @@ fn push_called(
 
 // Appends the line of a function, above these frames.
 fn push_frame(
-    alloc: Global,
     out: &mut Vec<u8>,
     sources: &Sources<'_>,
     frame: Frame,
@@ -208,7 +171,7 @@ fn push_frame(
 {
     out.extend_from_slice(b"   in ")?;
     out.extend_from_slice(function_name(sources.forms, frame.function).as_bytes())?;
-    push_called(alloc, out, sources, first_place(sources, below))?;
+    push_called(out, sources, first_place(sources, below))?;
     out.extend_from_slice(b"\n")
 }
 
@@ -220,31 +183,25 @@ fn push_rest(alloc: Global, out: &mut Vec<u8>, count: usize) -> Result<(), Alloc
         return Ok(());
     }
     out.extend_from_slice(b"   and ")?;
-    push_number(alloc, out, count)?;
+    push_number(alloc, out, count as u64)?;
     out.extend_from_slice(b" more\n")
 }
 
 // Appends the lines of the first frames, and how many more there are.
 #[tactic(auto, using(crate::proofs::WordLemmas::frames_left))]
-fn push_frames(
-    alloc: Global,
-    out: &mut Vec<u8>,
-    sources: &Sources<'_>,
-    frames: &[Frame],
-) -> Result<(), AllocError>
+fn push_frames(out: &mut Vec<u8>, sources: &Sources<'_>, frames: &[Frame]) -> Result<(), AllocError>
     ensures { OnOk result (out.new.items ≡ out.old.items
         ++ spec.frame_lines (plain_sources sources.now) spec.frame_limit frames.now) }
 {
     let count = frames.len().min(FRAME_LIMIT);
     for i in 0..count {
-        push_frame(alloc, out, sources, frames[i], &frames[i + 1..])?;
+        push_frame(out, sources, frames[i], &frames[i + 1..])?;
     }
-    push_rest(alloc, out, frames.len() - count)
+    push_rest(sources.alloc, out, frames.len() - count)
 }
 
 // Appends the variables of the first frame.
 fn push_first_variables(
-    alloc: Global,
     out: &mut Vec<u8>,
     sources: &Sources<'_>,
     frames: &[Frame],
@@ -255,16 +212,16 @@ fn push_first_variables(
 {
     match frames.get(0) {
         Some(frame) => {
-            let names = slot_names(alloc, sources.forms, frame.function)?;
-            push_variables(alloc, out, names.as_slice(), values)
+            let names = slot_names(sources.alloc, sources.forms, frame.function)?;
+            push_variables(sources.alloc, out, names.as_slice(), values)
         }
         None => Ok(()),
     }
 }
 
-// Appends the block of the thread that asked for this by its last step, before which these were its frames, and the values of the first.
+// Appends the block of a thread. `words` say who is at fault, and why; `frames` are its calls just before its last step, `values` the variables of the
+// innermost call.
 fn push_block(
-    alloc: Global,
     out: &mut Vec<u8>,
     sources: &Sources<'_>,
     words: Vec<u8>,
@@ -274,15 +231,14 @@ fn push_block(
     ensures { OnOk result (out.new.items ≡ out.old.items
         ++ spec.block_lines (plain_sources sources.now) words.items frames.now values.now) }
 {
-    let span = shown_span(alloc, sources, frames)?;
-    push_head(alloc, out, sources, words, span)?;
-    push_frames(alloc, out, sources, frames)?;
-    push_first_variables(alloc, out, sources, frames, values)
+    let span = shown_span(sources, frames)?;
+    push_head(out, sources, words, span)?;
+    push_frames(out, sources, frames)?;
+    push_first_variables(out, sources, frames, values)
 }
 
-// Appends what is said of a thread that stands so before its last step, and asks for this by it.
+// Appends what is said of a thread: `stood` is its machine just before its last step, and `ask` is what that step asked for.
 fn push_stood(
-    alloc: Global,
     out: &mut Vec<u8>,
     sources: &Sources<'_>,
     stood: &Machine,
@@ -292,12 +248,12 @@ fn push_stood(
         let Said = IsToldOf (plain_sources sources.now) p stood.now (plain_ask ask.now) in
         OnOk result (IsAdded Said out.old.items out.new.items) }
 {
-    let words = fault_words(alloc, sources, stood, ask)?;
-    let held = calls_down(alloc, stood)?;
+    let words = fault_words(sources, stood, ask)?;
+    let held = calls_down(sources.alloc, stood)?;
     let calls = held.as_slice();
-    let places = frames_of(alloc, sources.hub.program(), calls)?;
+    let places = frames_of(sources.alloc, sources.hub.program(), calls)?;
     let frames = places.as_slice();
-    push_block(alloc, out, sources, words, frames, first_values(calls))
+    push_block(out, sources, words, frames, first_values(calls))
 }
 
 /// Appends the block of a thread that is to end at a fault in its next turn.
@@ -305,7 +261,6 @@ fn push_stood(
 /// # Errors
 /// Out of memory.
 pub(crate) fn push_failure(
-    alloc: Global,
     out: &mut Vec<u8>,
     sources: &Sources<'_>,
     machine: &Machine,
@@ -317,7 +272,7 @@ pub(crate) fn push_failure(
         OnOk result (IsAdded (IsBlock (plain_sources sources.now) p f) out.old.items out.new.items) }
 {
     let program = sources.hub.program();
-    let slice = run_slice(alloc, program, machine)?;
-    let stood = machine.stepped(alloc, program, slice.steps - 1)?;
-    push_stood(alloc, out, sources, &stood, &slice.ask)
+    let slice = run_slice(sources.alloc, program, machine)?;
+    let stood = machine.stepped(sources.alloc, program, slice.steps - 1)?;
+    push_stood(out, sources, &stood, &slice.ask)
 }

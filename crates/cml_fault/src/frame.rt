@@ -1,13 +1,12 @@
 //! The calls on a thread's stack, and where they stand.
 
-ghost use Rattle.std.specs.{Prelude.{◌≡◌, ℕ, None, Some, IfOk, MatchOption, OnOk, map}, Option.{option_map, option_to_list}};
-ghost use Rattle.cml_step.specs.{Machines.{plain_held}, Shared.{plain_seen}};
-ghost use Rattle.cml_step.specs.declared.entry.Entry.TheVariants as entry;
+ghost use Rattle.std.specs.Prelude.{◌≡◌, Some, IfOk, map};
 ghost use Rattle.cml_fault.specs.{Frames.{AreFrames, IsFrame}, Views.{held_call}};
 ghost use Rattle.cml_fault.specs.Frames as spec;
 
 use cml_check::Prog;
-use cml_step::{Call, Machine, Seen};
+use cml_ending::as_call;
+use cml_step::{Call, Machine};
 use cml_value::Value;
 use std::alloc::{AllocError, Global};
 
@@ -16,18 +15,6 @@ use std::alloc::{AllocError, Global};
 pub struct Frame {
     pub function: u32,
     pub statement: Option<usize>,
-}
-
-// The entry, if it is a call.
-fn only_call(seen: Seen<'_>) -> Option<&Call>
-    ensures { MatchOption result (spec.only_call (plain_seen seen.entry) ≡ None)
-        (λ call. spec.only_call (plain_seen seen.entry) ≡ Some (held_call call.now)) }
-{
-    match seen {
-        Seen::Call(call) => Some(call),
-        Seen::Force(_, _) => None,
-        Seen::Wraps(_) => None,
-    }
 }
 
 /// The calls on the stack of a thread, from the top.
@@ -42,7 +29,7 @@ pub(crate) fn calls_down(alloc: Global, machine: &Machine) -> Result<Vec<&Call>,
     let mut calls = Vec::new(alloc);
     let mut walk = machine.entries();
     'entries: while let Some(seen) = walk.step() {
-        match only_call(seen) {
+        match as_call(seen) {
             Some(call) => calls.push(call)?,
             None => {}
         }

@@ -3,8 +3,10 @@
 
 mod block;
 mod explain;
+mod failed;
 mod frame;
 mod variable;
 
 pub use explain::explain_faults;
+pub use failed::failed_by;
 pub use frame::Frame;
