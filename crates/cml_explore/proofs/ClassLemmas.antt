@@ -6,6 +6,7 @@ use Rattle.std.proofs.lemmas.List.Quantifiers.{position-Some}
 use Rattle.std.proofs.lemmas.Option.{slice_get-get_or}
 use Rattle.std.specs.List.{All, list_any}
 use Rattle.std.proofs.lemmas.List.Elements.{All-head, All-tail}
+use Rattle.cml_ending.proofs.OrLemmas.{or_false}
 use Rattle.cml_explore.specs.declared.detail.Detail.{Detail}
 use Rattle.cml_explore.specs.Details.{alike}
 use Rattle.cml_explore.specs.Classes.{Finish, PlainTally, PlainClass, first_run, grown, classed, with_details}
@@ -28,14 +29,6 @@ classed_at f seed end (d ∷ ds) (u ∷ ts) (suc i) k t same h is first =
     ap (λ cs. c ∷ cs) (classed_at f seed end ds ts i k t tail lt is (λ j g. first (suc j) (omega arith)))
     ∙ sym (ap (λ b. if b then record c { tally = grown c.tally end } ∷ rest else c ∷ classed seed end rest) (first zero (omega arith)))
 
-or_first : (a b : Bool) → a || b ≡ false → a ≡ false
-or_first true b e = cc
-or_first false b e = refl
-
-or_second : (a b : Bool) → a || b ≡ false → b ≡ false
-or_second true b e = cc
-or_second false b e = e
-
 -- None ended alike: it is the first of a class.
 classed_new : {K : Type 0} (f : K → List Detail) (seed : ℕ) (end : Finish) (ks : List K) (ts : List PlainTally) → length ks ≡ length ts
     → list_any (λ k. alike end.details (f k)) ks ≡ false
@@ -48,8 +41,8 @@ classed_new f seed end (d ∷ ds) (u ∷ ts) same none =
     let rest = with_details (map f ds) ts in
     let rest_none = list_any (λ k. alike end.details (f k)) ds in
     let tail : length ds ≡ length ts = omega arith in
-    ap (λ cs. c ∷ cs) (classed_new f seed end ds ts tail (or_second (alike end.details (f d)) rest_none none))
-    ∙ sym (ap (λ b. if b then record c { tally = grown c.tally end } ∷ rest else c ∷ classed seed end rest) (or_first (alike end.details (f d)) rest_none none))
+    ap (λ cs. c ∷ cs) (classed_new f seed end ds ts tail (or_false (alike end.details (f d)) rest_none none).1)
+    ∙ sym (ap (λ b. if b then record c { tally = grown c.tally end } ∷ rest else c ∷ classed seed end rest) (or_false (alike end.details (f d)) rest_none none).0)
 
 -- each class has few runs, so each tally has
 few_at : {K : Type 0} (f : K → List Detail) (n : ℕ) (ks : List K) (ts : List PlainTally) (i : ℕ) (t : PlainTally) → length ks ≡ length ts → i < length ks

@@ -20,6 +20,11 @@ use Rattle.cml_explore.specs.Finishes.{PlainEnded, is_well, stops, IsEndOf, Ends
 use Rattle.cml_explore.specs.Explored.{PlainExplored, gathered, nothing_made, with_ended, IsExplored, SoFar, HasMade}
 use Rattle.cml_explore.specs.Merges.{StopsLast}
 
+-- the runs so far, of as many as were asked for
+pub record MadeSoFar (p : List (PlainItem ℕ)) (asked : Asked) (made : PlainExplored) : Type 0 where
+  pub so_far : SoFar p asked made
+  pub few : made.runs ≤ asked.runs
+
 -- one run more, by the seed that follows
 ends_more : (p : List (PlainItem ℕ)) (budget : ℕ) (order : Order) (servers : List ℕ) (seed : ℕ) (es : List PlainEnded) (n : ℕ) (e : PlainEnded) → n ≡ seed + length es
     → EachEnds p budget order servers seed es → EndsSoBy p budget order servers n e → EachEnds p budget order servers seed (es ++ e ∷ [])

@@ -7,6 +7,7 @@ use Rattle.std.proofs.lemmas.List.Quantifiers.{position-Some}
 use Rattle.std.proofs.lemmas.List.Sums.{sum_by-cons}
 use Rattle.std.specs.List.{All, list_any}
 use Rattle.std.proofs.lemmas.List.Elements.{All-nil, All-cons, All-head, All-tail}
+use Rattle.cml_ending.proofs.OrLemmas.{or_false}
 use Rattle.cml_explore.specs.declared.detail.Detail.{Detail}
 use Rattle.cml_explore.specs.Details.{alike}
 use Rattle.cml_explore.specs.Classes.{PlainTally, PlainClass, with_details}
@@ -33,14 +34,6 @@ joined_at f d (x ∷ ks) (u ∷ ts) (suc i) k t same h is first =
     ap (λ cs. c ∷ cs) (joined_at f d ks ts i k t tail lt is (λ j g. first (suc j) (omega arith)))
     ∙ sym (ap (λ b. if b then joined_class c d ∷ rest else c ∷ class_joined rest d) (first zero (omega arith)))
 
-or_first : (a b : Bool) → a || b ≡ false → a ≡ false
-or_first true b e = cc
-or_first false b e = refl
-
-or_second : (a b : Bool) → a || b ≡ false → b ≡ false
-or_second true b e = cc
-or_second false b e = e
-
 -- None ended alike: it comes last.
 joined_new : {K : Type 0} (f : K → List Detail) (d : PlainClass) (ks : List K) (ts : List PlainTally) → length ks ≡ length ts
     → list_any (λ k. alike d.details (f k)) ks ≡ false
@@ -53,8 +46,8 @@ joined_new f d (x ∷ ks) (u ∷ ts) same none =
     let rest = with_details (map f ks) ts in
     let rest_none = list_any (λ k. alike d.details (f k)) ks in
     let tail : length ks ≡ length ts = omega arith in
-    ap (λ cs. c ∷ cs) (joined_new f d ks ts tail (or_second (alike d.details (f x)) rest_none none))
-    ∙ sym (ap (λ b. if b then joined_class c d ∷ rest else c ∷ class_joined rest d) (or_first (alike d.details (f x)) rest_none none))
+    ap (λ cs. c ∷ cs) (joined_new f d ks ts tail (or_false (alike d.details (f x)) rest_none none).1)
+    ∙ sym (ap (λ b. if b then joined_class c d ∷ rest else c ∷ class_joined rest d) (or_false (alike d.details (f x)) rest_none none).0)
 
 -- each class leaves room for so many runs, so each tally does
 room_at : {K : Type 0} (f : K → List Detail) (m n : ℕ) (ks : List K) (ts : List PlainTally) (i : ℕ) (t : PlainTally) → length ks ≡ length ts → i < length ks

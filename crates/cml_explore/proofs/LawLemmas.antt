@@ -15,7 +15,7 @@ use Rattle.cml_explore.specs.Classes.{Finish, PlainTally, PlainClass, shorter, f
 use Rattle.cml_explore.specs.Finishes.{PlainEnded, EndsSoBy, EachEnds}
 use Rattle.cml_explore.specs.Explored.{PlainExplored, IsExplored}
 use Rattle.cml_explore.specs.Laws.{IsOneOfClass, KeepsItsOwn, CountsEachOnce}
-use Rattle.cml_explore.proofs.ExploreLemmas.{map_long}
+use Rattle.cml_explore.proofs.PartLemmas.{counted_gathered}
 
 -- each detail is the same as itself
 eq_self : (n : ℕ) → nat_eq n n ≡ true
@@ -116,31 +116,6 @@ keeps_its_own p asked made is =
     subst (λ (cs : List PlainClass). All Keeps cs) (sym (ap (λ (m : PlainExplored). m.classes) is.gathered_so))
     (own_all p asked made.runs asked.first is.ends [] from below is.each (All-nil Keeps))
 
--- the runs of all classes, and one more
-counted_if : (b : Bool) (end : Finish) (c : PlainClass) (cs rest : List PlainClass) → sum_by (λ (x : PlainClass). x.tally.runs) rest ≡ sum_by (λ (x : PlainClass). x.tally.runs) cs + 1
-    → sum_by (λ (x : PlainClass). x.tally.runs) (if b then record c { tally = grown c.tally end } ∷ cs else c ∷ rest) ≡ sum_by (λ (x : PlainClass). x.tally.runs) (c ∷ cs) + 1
-counted_if true end c cs rest more =
-    let f : PlainClass → ℕ = λ x. x.tally.runs in
-    omega (arith, sum_by-cons f (record c { tally = grown c.tally end }) cs, sum_by-cons f c cs)
-counted_if false end c cs rest more =
-    let f : PlainClass → ℕ = λ x. x.tally.runs in
-    omega (arith, more, sum_by-cons f c rest, sum_by-cons f c cs)
-
-counted_one : (seed : ℕ) (end : Finish) (cs : List PlainClass) → sum_by (λ (x : PlainClass). x.tally.runs) (classed seed end cs) ≡ sum_by (λ (x : PlainClass). x.tally.runs) cs + 1
-counted_one seed end [] = refl
-counted_one seed end (c ∷ cs) = counted_if (alike end.details c.details) end c cs (classed seed end cs) (counted_one seed end cs)
-
-counted_all : (seed : ℕ) (ends : List Finish) (cs : List PlainClass) → sum_by (λ (x : PlainClass). x.tally.runs) (classed_all seed ends cs) ≡ sum_by (λ (x : PlainClass). x.tally.runs) cs + length ends
-counted_all seed [] cs = omega arith
-counted_all seed (e ∷ es) cs =
-    let rest = counted_all (suc seed) es (classed seed e cs) in
-    let one = counted_one seed e cs in
-    omega (arith, rest, one)
-
+-- the runs of all classes are all runs
 pub counts_each_once : CountsEachOnce
-counts_each_once p asked made is =
-    let ends : List Finish = map (λ (x : PlainEnded). x.finish) is.ends in
-    let all : sum_by (λ (x : PlainClass). x.tally.runs) (classed_all asked.first ends []) ≡ 0 + length ends = counted_all asked.first ends [] in
-    let long : length ends ≡ length is.ends = map_long is.ends in
-    let many : made.runs ≡ length is.ends = ap (λ (m : PlainExplored). m.runs) is.gathered_so in
-    ap (λ (m : PlainExplored). sum_by (λ (x : PlainClass). x.tally.runs) m.classes) is.gathered_so ∙ omega (arith, all, long, many)
+counts_each_once p asked made is = counted_gathered asked.first is.ends made is.gathered_so

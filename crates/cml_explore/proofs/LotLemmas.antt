@@ -1,43 +1,21 @@
 -- What is next_by_lot.
-use Rattle.std.proofs.Common.{◌≡◌, ◌≢◌, ℕ, suc, ◌+◌, ◌<◌, ◌≤◌, false, if◌then◌else◌, List, ◌++◌, length, get_or, drop, Some, None, sym, ap, ◌∙◌, arith, append_assoc, append-nil, add-one}
+use Rattle.std.proofs.Common.{◌≡◌, ◌≢◌, ℕ, ◌+◌, false, if◌then◌else◌, List, length, None, refl, sym, ap, ◌∙◌, arith}
 use Rattle.std.specs.Prelude.{◌==◌, slice_get, option_map}
 use Rattle.std.proofs.lemmas.Bool.Decides.{nat_tests}
-use Rattle.std.proofs.lemmas.List.{at_drop_more, drop_all}
-use Rattle.std.proofs.lemmas.Option.{slice_get-get_or}
 use Rattle.rand_pcg.specs.Lcg.{Lcg}
 use Rattle.cml_value.specs.declared.number.Tid.{Tid}
-use Rattle.cml_scan.specs.World.{PlainThread, running, PlainWorld}
+use Rattle.cml_scan.specs.World.{PlainWorld}
 use Rattle.cml_scan.specs.Scan.{scan}
 use Rattle.cml_schedule.specs.declared.item.Item.TheVariants.{Clock}
 use Rattle.cml_hub.specs.Runs.{next_alarm}
 use Rattle.cml_hub.specs.Playing.{picked}
+use Rattle.cml_ending.proofs.ThreadLemmas.{IsMade}
 use Rattle.cml_explore.specs.Generators.{by_generator}
 use Rattle.cml_explore.specs.Lots.{ready_of, ready_from, row_choices, row_by_lot, item_by_lot, next_by_lot}
 
--- one thread more
-pub ready_more : (threads : List PlainThread) (i : ℕ) (o p all : List Tid) → i < length threads
-    → ((t : PlainThread) → slice_get threads i ≡ Some t → p ≡ o ++ ready_of i t)
-    → o ++ ready_from i (drop i threads) ≡ all → p ++ ready_from (i + 1) (drop (i + 1) threads) ≡ all
-ready_more threads i o p all h is so_far =
-    let t = get_or threads i running in
-    let rest = ready_from (suc i) (drop (i + 1) threads) in
-    let e : p ≡ o ++ ready_of i t = is t (slice_get-get_or threads i running h) in
-    let next : i + 1 ≡ suc i = add-one i in
-    ap (λ k. p ++ ready_from k (drop (i + 1) threads)) next
-    ∙ (ap (λ x. x ++ rest) e
-    ∙ (append_assoc o (ready_of i t) rest
-    ∙ (ap (λ x. o ++ x) (sym (at_drop_more (ready_from i) threads i running h)) ∙ so_far)))
-
-pub no_more_ready : (threads : List PlainThread) (i : ℕ) (o all : List Tid) → length threads ≤ i → o ++ ready_from i (drop i threads) ≡ all → o ≡ all
-no_more_ready threads i o all h so_far =
-    sym (append-nil o) ∙ (ap (λ rest. o ++ ready_from i rest) (sym (drop_all i threads h)) ∙ so_far)
-
--- there is nothing to draw among
-pub lot_still : (w : PlainWorld) (state : Lcg) (ready : List Tid) (a b n : ℕ) → ready ≡ ready_from 0 w.threads → a ≡ length ready → b ≡ row_choices (scan w) → n ≡ a + b → n ≡ 0
-    → next_by_lot w state ≡ (option_map Clock (next_alarm w), state)
-lot_still w state ready a b n is long rows sum none =
-    let count : length (ready_from 0 w.threads) + row_choices (scan w) ≡ 0 = omega (arith, ap length is) in
-    ap (λ k. if k == 0 then (option_map Clock (next_alarm w), state) else item_by_lot w (by_generator.next state) (slice_get (ready_from 0 w.threads) (by_generator.picks state k))) count
+-- the threads that run
+pub ready_made : IsMade ready_of ready_from
+ready_made = record { none = λ i. refl; more = λ i t threads. refl }
 
 -- this number was next_by_lot
 pub lot_moves : (w : PlainWorld) (state : Lcg) (ready : List Tid) (a b n : ℕ) → ready ≡ ready_from 0 w.threads → a ≡ length ready → b ≡ row_choices (scan w) → n ≡ a + b → n ≢ 0

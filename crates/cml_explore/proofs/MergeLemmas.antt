@@ -8,6 +8,7 @@ use Rattle.std.proofs.lemmas.Bool.Decides.{nat_tests}
 use Rattle.std.proofs.lemmas.List.Folds.{list_any-append}
 use Rattle.std.proofs.lemmas.List.Sums.{fold-append}
 use Rattle.cml_schedule.specs.declared.item.Item.{Item}
+use Rattle.cml_ending.proofs.OrLemmas.{or_false}
 use Rattle.cml_explore.specs.declared.detail.Detail.{Detail}
 use Rattle.cml_explore.specs.contracts.detail.DetailEq.TheImpl.Laws.{laws-law}
 use Rattle.cml_explore.specs.Details.{alike}
@@ -39,14 +40,6 @@ or_left false b e = cc
 neither : (a b : Bool) → a ≡ false → b ≡ false → a || b ≡ false
 neither true b e f = cc
 neither false b e f = f
-
-first_not : (a b : Bool) → a || b ≡ false → a ≡ false
-first_not true b e = cc
-first_not false b e = refl
-
-second_not : (a b : Bool) → a || b ≡ false → b ≡ false
-second_not true b e = cc
-second_not false b e = e
 
 -- ---- digests
 
@@ -195,8 +188,8 @@ crosses_all : (n : ℕ) (e : Finish) (fs cs : List PlainClass) → list_any (λ 
     → classed n e (fold class_joined cs fs) ≡ fold class_joined (classed n e cs) fs
 crosses_all n e [] cs none some = refl
 crosses_all n e (f ∷ fs) cs none some =
-    crosses_all n e fs (class_joined cs f) (second_not (alike e.details f.details) _ none) (joined_any e.details f cs some)
-    ∙ ap (λ l. fold class_joined l fs) (crosses n e f cs (first_not (alike e.details f.details) _ none) some)
+    crosses_all n e fs (class_joined cs f) (or_false (alike e.details f.details) _ none).1 (joined_any e.details f cs some)
+    ∙ ap (λ l. fold class_joined l fs) (crosses n e f cs (or_false (alike e.details f.details) _ none).0 some)
 
 -- no two of the classes are alike
 abbrev Apart : List PlainClass → Type 0
@@ -208,7 +201,7 @@ none_same : (ds es : List Detail) (cs : List PlainClass) → alike ds es ≡ tru
     → list_any (λ (x : PlainClass). alike ds x.details) cs ≡ false
 none_same ds es [] same none = refl
 none_same ds es (c ∷ cs) same none =
-    neither _ _ (alike_laws.congr ds es c.details same ∙ first_not (alike es c.details) _ none) (none_same ds es cs same (second_not (alike es c.details) _ none))
+    neither _ _ (alike_laws.congr ds es c.details same ∙ (or_false (alike es c.details) _ none).0) (none_same ds es cs same (or_false (alike es c.details) _ none).1)
 
 classed_joined_if : (b : Bool) (n : ℕ) (e : Finish) (d : PlainClass) (ds cs : List PlainClass) → alike e.details d.details ≡ b → list_any (λ (x : PlainClass). alike d.details x.details) ds ≡ false
     → classed n e (fold class_joined (class_joined cs d) ds) ≡ fold class_joined (class_joined cs d) (classed n e ds)
@@ -227,13 +220,13 @@ none_classed_if : (b : Bool) (n : ℕ) (e : Finish) (ds : List Detail) (c : Plai
     → list_any (λ (x : PlainClass). alike ds x.details) (classed n e cs) ≡ false
     → list_any (λ (x : PlainClass). alike ds x.details) (if b then grown_class c e ∷ cs else c ∷ classed n e cs) ≡ false
 none_classed_if true n e ds c cs none rest = none
-none_classed_if false n e ds c cs none rest = neither _ _ (first_not (alike ds c.details) _ none) rest
+none_classed_if false n e ds c cs none rest = neither _ _ (or_false (alike ds c.details) _ none).0 rest
 
 none_classed : (n : ℕ) (e : Finish) (ds : List Detail) (cs : List PlainClass) → alike ds e.details ≡ false → list_any (λ (x : PlainClass). alike ds x.details) cs ≡ false
     → list_any (λ (x : PlainClass). alike ds x.details) (classed n e cs) ≡ false
 none_classed n e ds [] other none = neither _ _ other refl
 none_classed n e ds (c ∷ cs) other none =
-    none_classed_if (alike e.details c.details) n e ds c cs none (none_classed n e ds cs other (second_not (alike ds c.details) _ none))
+    none_classed_if (alike e.details c.details) n e ds c cs none (none_classed n e ds cs other (or_false (alike ds c.details) _ none).1)
 
 apart_if : (b : Bool) (n : ℕ) (e : Finish) (c : PlainClass) (cs : List PlainClass) → alike e.details c.details ≡ b → Apart (c ∷ cs) → Apart (classed n e cs)
     → Apart (if b then grown_class c e ∷ cs else c ∷ classed n e cs)

@@ -42,7 +42,7 @@ counted_all seed (e ∷ es) cs =
     let one = counted_one seed e cs in
     omega (arith, rest, one)
 
-counted_gathered : (first : ℕ) (ends : List PlainEnded) (made : PlainExplored) → made ≡ gathered first ends → runs_of made.classes ≡ made.runs
+pub counted_gathered : (first : ℕ) (ends : List PlainEnded) (made : PlainExplored) → made ≡ gathered first ends → runs_of made.classes ≡ made.runs
 counted_gathered first ends made is =
     let finishes : List Finish = map (λ (x : PlainEnded). x.finish) ends in
     let all : runs_of (classed_all first finishes []) ≡ 0 + length finishes = counted_all first finishes [] in

@@ -1,11 +1,9 @@
--- The lines of threads, one after another.
+-- The lines of threads.
 use Rattle.std.proofs.Common.{◌≡◌, ℕ, suc, ◌+◌, ◌<◌, ◌≤◌, List, [], ◌∷◌, ◌++◌, length, get_or, drop, Option, Some, None, inl, inr, refl, sym, ap, subst, ◌∙◌, arith, append_assoc, append-nil, add-one}
 use Rattle.std.specs.Prelude.{slice_get, if◌then◌else◌, codes, Result, Ok, Err, OnOk}
 use Rattle.std.specs.Result.{is_ok}
 use Rattle.std.proofs.lemmas.Bool.{cases_lt}
-use Rattle.std.proofs.lemmas.List.{at_drop_more, drop_all, get_or_append_left, get_or_push}
-use Rattle.std.proofs.lemmas.Option.{slice_get-get_or}
-use Rattle.cml_scan.specs.World.{PlainThread, running}
+use Rattle.std.proofs.lemmas.List.{get_or_append_left, get_or_push}
 use Rattle.cml_text.specs.Forms.{PlainSexpr}
 use Rattle.cml_check.specs.Syntax.{PlainItem}
 use Rattle.cml_step.specs.Calls.{text_of}
@@ -19,26 +17,13 @@ use Rattle.cml_ending.specs.declared.standing.Spot.{Spot}
 use Rattle.cml_ending.specs.declared.takers.Takers.{Takers}
 use Rattle.cml_ending.specs.Takes.{takes_of, last_taker, taker_in, KnowsTakers}
 use Rattle.cml_ending.specs.Standings.{IsSpotOf, spot_at}
+use Rattle.cml_ending.proofs.ThreadLemmas.{IsMade}
 use Rattle.cml_explore.specs.Answers.{LeftBy}
 use Rattle.cml_explore.specs.Falls.{PlainFall, AreFalls}
 use Rattle.cml_explore.specs.ThreadLines.{Sight, sight_of, AreSpotsToTell, thread_stand, fall_left, left_line, all_left}
 
-pub one_left_more : (s : Sight) (threads : List PlainThread) (i : ℕ) (o p all : List ℕ) → i < length threads
-    → ((t : PlainThread) → slice_get threads i ≡ Some t → p ≡ o ++ left_line s i t)
-    → o ++ all_left s i (drop i threads) ≡ all → p ++ all_left s (i + 1) (drop (i + 1) threads) ≡ all
-one_left_more s threads i o p all h is so_far =
-    let t = get_or threads i running in
-    let rest = all_left s (suc i) (drop (i + 1) threads) in
-    let e : p ≡ o ++ left_line s i t = is t (slice_get-get_or threads i running h) in
-    let next : i + 1 ≡ suc i = add-one i in
-    ap (λ k. p ++ all_left s k (drop (i + 1) threads)) next
-    ∙ (ap (λ x. x ++ rest) e
-    ∙ (append_assoc o (left_line s i t) rest
-    ∙ (ap (λ x. o ++ x) (sym (at_drop_more (all_left s i) threads i running h)) ∙ so_far)))
-
-pub no_left_more : (s : Sight) (threads : List PlainThread) (i : ℕ) (o all : List ℕ) → length threads ≤ i → o ++ all_left s i (drop i threads) ≡ all → o ≡ all
-no_left_more s threads i o all h so_far =
-    sym (append-nil o) ∙ (ap (λ rest. o ++ all_left s i rest) (sym (drop_all i threads h)) ∙ so_far)
+pub left_made : (s : Sight) → IsMade (left_line s) (all_left s)
+left_made s = record { none = λ i. refl; more = λ i t threads. refl }
 
 -- one spot more
 pub spot_more : (p : List (PlainItem ℕ)) (call : ℕ → Option PlainHeld) (spots : List (Option Spot)) (spot : Option Spot) (n : ℕ) → length spots ≡ n → IsSpotOf p (call n) spot

@@ -10,10 +10,11 @@ use crate::explored::{Asked, Explored};
 use crate::fall::retell;
 use crate::order::Order;
 use crate::rank::{Rank, ranks_of};
-use crate::run::{let_go, seed_run};
-use crate::sight::{Sighted, push_all_left, spots_of};
-use crate::words::{Widths, push_class_line, push_many, push_number, widths_of};
+use crate::run::seed_run;
+use crate::sight::{Sighted, spots_of};
+use crate::words::{Widths, push_class_line, widths_of};
 use cml_check::Prog;
+use cml_ending::{let_go, push_many, push_number};
 use cml_hub::Hub;
 use cml_phrase::{Place, statement_places};
 use cml_text::Sexpr;
@@ -22,6 +23,7 @@ use std::alloc::{AllocError, Global};
 // The script of which the answer speaks.
 #[derive(Clone, Copy)]
 struct Scripted<'a> {
+    alloc: Global,
     forms: &'a [Sexpr],
     places: &'a [Vec<Place>],
     program: &'a Prog,
@@ -30,17 +32,13 @@ struct Scripted<'a> {
 }
 
 // Appends the lines of the threads that are left in this run, or ended at a fault.
-fn push_hub(
-    alloc: Global,
-    out: &mut Vec<u8>,
-    script: &Scripted<'_>,
-    hub: &Hub,
-) -> Result<(), AllocError>
+fn push_hub(out: &mut Vec<u8>, script: &Scripted<'_>, hub: &Hub) -> Result<(), AllocError>
     ensures { OnOk result (LeftBy script.now.forms.now (map (λ own. own.items) script.now.places.now) hub.now.course out.old.items out.new.items) }
 {
-    let known = retell(alloc, hub)?;
-    let spots = spots_of(alloc, hub, &known.falls)?;
+    let known = retell(script.alloc, hub)?;
+    let spots = spots_of(script.alloc, hub, &known.falls)?;
     let sight = Sighted {
+        alloc: script.alloc,
         forms: script.forms,
         places: script.places,
         hub,
@@ -48,28 +46,28 @@ fn push_hub(
         falls: &known.falls,
         spots: spots.as_slice(),
     };
-    push_all_left(alloc, out, &sight)
+    sight.push_all_left(out)
 }
 
 // Appends those in the run by this seed, which is made once more.
-fn push_seed(
-    alloc: Global,
-    out: &mut Vec<u8>,
-    script: &Scripted<'_>,
-    seed: u64,
-) -> Result<(), AllocError>
+fn push_seed(out: &mut Vec<u8>, script: &Scripted<'_>, seed: u64) -> Result<(), AllocError>
     requires { IsBudget script.now.budget }
     ensures { OnOk result (LeftBySeed script.now.forms.now (map (λ own. own.items) script.now.places.now) script.now.program.now script.now.budget script.now.order seed out.old.items out.new.items) }
 {
-    let hub = seed_run(alloc, script.program, script.budget, script.order, seed)?;
-    let pushed = push_hub(alloc, out, script, &hub);
+    let hub = seed_run(
+        script.alloc,
+        script.program,
+        script.budget,
+        script.order,
+        seed,
+    )?;
+    let pushed = push_hub(out, script, &hub);
     let_go(hub);
     pushed
 }
 
 // Appends what is said of a class.
 fn push_class(
-    alloc: Global,
     out: &mut Vec<u8>,
     script: &Scripted<'_>,
     widths: Widths,
@@ -79,13 +77,12 @@ fn push_class(
     ensures { OnOk result ((said : List ℕ) × ClassSaid (map (λ own. own.items) script.now.places.now) script.now.forms.now script.now.program.now script.now.budget script.now.order widths (plain_class class.entry) said
         × (out.new.items ≡ out.old.items ++ said)) }
 {
-    push_class_line(alloc, out, widths, class)?;
-    push_seed(alloc, out, script, class.tally.first())
+    push_class_line(script.alloc, out, widths, class)?;
+    push_seed(out, script, class.tally.first())
 }
 
 // Appends what is said of the class of a rank.
 fn push_rank(
-    alloc: Global,
     out: &mut Vec<u8>,
     script: &Scripted<'_>,
     widths: Widths,
@@ -99,12 +96,11 @@ fn push_rank(
     if rank.1 >= classes.len() {
         return Ok(());
     }
-    push_class(alloc, out, script, widths, classes.class(rank.1))
+    push_class(out, script, widths, classes.class(rank.1))
 }
 
 // Appends what is said of the classes of these ranks, one after another.
 fn push_ranks(
-    alloc: Global,
     out: &mut Vec<u8>,
     script: &Scripted<'_>,
     widths: Widths,
@@ -116,7 +112,7 @@ fn push_ranks(
         × (out.new.items ≡ out.old.items ++ said)) }
 {
     for rank in ranks {
-        push_rank(alloc, out, script, widths, classes, *rank)?;
+        push_rank(out, script, widths, classes, *rank)?;
     }
     Ok(())
 }
@@ -174,6 +170,7 @@ pub fn explain_runs(
 {
     let places = statement_places(alloc, text, forms)?;
     let script = Scripted {
+        alloc,
         forms,
         places: places.as_slice(),
         program,
@@ -185,6 +182,6 @@ pub fn explain_runs(
     let widths = widths_of(alloc, all)?;
     let mut out = Vec::new(alloc);
     push_head(alloc, &mut out, name, asked.first, made.runs())?;
-    push_ranks(alloc, &mut out, &script, widths, all, ranks.as_slice())?;
+    push_ranks(&mut out, &script, widths, all, ranks.as_slice())?;
     Ok(out)
 }

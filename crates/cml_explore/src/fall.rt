@@ -1,21 +1,20 @@
 //! Where the threads of a run stood that ended at faults, and who took from M-variables last: for both the schedule is gone through once more.
 
-ghost use Rattle.std.specs.Prelude.{◌≡◌, ◌<◌, ◌==◌, ◌++◌, ◌∷◌, ℕ, [], None, Some, true, if◌then◌else◌, length, slice_get, MatchOption, IfOk, OnOk};
+ghost use Rattle.std.specs.Prelude.{◌≡◌, ◌==◌, ◌++◌, ◌∷◌, ℕ, [], None, Some, true, if◌then◌else◌, MatchOption, IfOk, OnOk};
 ghost use Rattle.cml_step.specs.{Answers.{top_await}, Calls.{text_of}, Machines.{machine_term, Fits}};
 ghost use Rattle.cml_step.specs.Answers as answers;
-ghost use Rattle.cml_hub.specs.{Dones.{GoesOn}, Kept.{NoneOut}, Runs.{is_allowed}};
-ghost use Rattle.cml_schedule.specs.declared.item.Item.TheVariants as item_of;
-ghost use Rattle.cml_ending.specs.Takes.{taker_in, KnowsTakers};
+ghost use Rattle.cml_hub.specs.{Kept.{NoneOut}, Runs.{is_allowed}};
+ghost use Rattle.cml_ending.specs.{Again.{RunsAgain, AddsAlone}, Takes.{taker_in, KnowsTakers}};
 ghost use Rattle.cml_fault.specs.Failures.{failure_of};
 ghost use Rattle.cml_explore.specs.{Falls.{PlainFall, IsFall, AreFalls}, FallViews.{plain_fall, fall_in}};
 
-use crate::run::let_go;
 use cml_check::Prog;
-use cml_ending::Takers;
+use cml_ending::{Takers, begin_again, let_go, make_room};
+use cml_fault::failed_by;
 use cml_hub::{Hub, Item};
 use cml_step::{Ask, Machine, Slice, run_slice};
 use cml_value::Tid;
-use std::alloc::{AllocError, AllocFailed, Global};
+use std::alloc::{AllocError, Global};
 
 /// A thread that ended at a fault: where it stood before its last step, and what it asked for by that.
 #[derive(Drop)]
@@ -50,67 +49,14 @@ impl Falls {
         }
     }
 
-    // Makes room for this thread.
-    fn grow(&mut self, thread: usize) -> Result<(), AllocError>
-        ensures same { (t : ℕ) → fall_in self.new t ≡ fall_in self.old t }
-        ensures room { OnOk result (thread < length self.new.by_thread.items) }
-    {
-        'growing: while self.by_thread.len() <= thread {
-            self.by_thread.push(None)?;
-        }
-        Ok(())
-    }
-
     // Keeps that of this thread.
     fn keep(&mut self, thread: Tid, fall: Fall) -> Result<(), AllocError>
         ensures { OnOk result ((t : ℕ) → fall_in self.new t ≡ (if thread.0 == t then Some (plain_fall fall) else fall_in self.old t)) }
     {
         let place = thread.0 as usize;
-        self.grow(place)?;
+        make_room(&mut self.by_thread, place)?;
         self.by_thread[place] = Some(fall);
         Ok(())
-    }
-}
-
-// A hub at the beginning of the other's program.
-fn beginning(alloc: Global, hub: &Hub) -> Result<Hub, AllocError>
-    ensures program { IfOk result (λ new. new.course.program ≡ hub.now.course.program) }
-    ensures items { IfOk result (λ new. new.course.items ≡ []) }
-    ensures none_out { IfOk result (λ new. NoneOut new) }
-{
-    match Hub::begin(alloc, hub.program().copy()?, hub.budget(), None) {
-        Ok(new) => Ok(new),
-        Err(AllocFailed { value }) => {
-            drop(value);
-            Err(AllocError)
-        }
-    }
-}
-
-// The item comes, which is allowed now.
-fn come(alloc: Global, hub: &mut Hub, item: Item) -> Result<(), AllocError>
-    requires out { NoneOut hub.old }
-    requires allowed { is_allowed hub.old.course.world item ≡ true }
-    ensures program { OnOk result (hub.new.course.program ≡ hub.old.course.program) }
-    ensures items { OnOk result (hub.new.course.items ≡ hub.old.course.items ++ item ∷ []) }
-    ensures none_out { OnOk result (NoneOut hub.new) }
-{
-    match hub.follow(alloc, item)? {
-        true => Ok(()),
-        false => unreachable!(),
-    }
-}
-
-// The machine of a thread that runs, once more.
-fn running_machine(alloc: Global, hub: &Hub, thread: Tid) -> Result<Machine, AllocError>
-    requires { is_allowed hub.now.course.world (item_of.Turn thread) ≡ true }
-    ensures machine { IfOk result (λ m. slice_get hub.now.course.machines thread.0 ≡ Some m) }
-    ensures thread { IfOk result (λ m. m.thread ≡ thread.0) }
-    ensures goes { IfOk result (λ m. GoesOn hub.now.course.program m) }
-{
-    match hub.machine(thread) {
-        Some(machine) => machine.copy(alloc),
-        None => unreachable!(),
     }
 }
 
@@ -127,34 +73,6 @@ fn fall_of(alloc: Global, program: &Prog, machine: &Machine) -> Result<Fall, All
     Ok(Fall { machine, ask })
 }
 
-// The thread has its turn, which is allowed now. Where it ends at a fault by that, it is kept.
-fn follow_turn(
-    alloc: Global,
-    second: &mut Hub,
-    falls: &mut Falls,
-    thread: Tid,
-) -> Result<(), AllocError>
-    requires out { NoneOut second.old }
-    requires allowed { is_allowed second.old.course.world (item_of.Turn thread) ≡ true }
-    ensures program { OnOk result (second.new.course.program ≡ second.old.course.program) }
-    ensures items { OnOk result (second.new.course.items ≡ second.old.course.items ++ item_of.Turn thread ∷ []) }
-    ensures none_out { OnOk result (NoneOut second.new) }
-    ensures falls { let p = second.old.course.program in
-        OnOk result (AreFalls p second.old.course.items (fall_in falls.old) → AreFalls p second.new.course.items (fall_in falls.new)) }
-{
-    // No effect: named here so that the prover knows what holds of it.
-    let _so_far = second.schedule();
-    let before = second.faults();
-    let kept = running_machine(alloc, second, thread)?;
-    come(alloc, second, Item::Turn(thread))?;
-    let after = second.faults();
-    if after == before {
-        return Ok(());
-    }
-    let fall = fall_of(alloc, second.program(), &kept)?;
-    falls.keep(thread, fall)
-}
-
 // The item comes, which is allowed now. Where a thread ends at a fault by it, that is kept.
 fn follow_item(
     alloc: Global,
@@ -164,19 +82,17 @@ fn follow_item(
 ) -> Result<(), AllocError>
     requires out { NoneOut second.old }
     requires allowed { is_allowed second.old.course.world item ≡ true }
-    ensures program { OnOk result (second.new.course.program ≡ second.old.course.program) }
-    ensures items { OnOk result (second.new.course.items ≡ second.old.course.items ++ item ∷ []) }
-    ensures none_out { OnOk result (NoneOut second.new) }
-    ensures falls { let p = second.old.course.program in
-        OnOk result (AreFalls p second.old.course.items (fall_in falls.old) → AreFalls p second.new.course.items (fall_in falls.new)) }
+    ensures came { OnOk result (AddsAlone second.old item second.new) }
+    ensures falls { let p = second.old.course.program in let items = second.old.course.items in
+        OnOk result (AreFalls p items (fall_in falls.old) → AreFalls p (items ++ item ∷ []) (fall_in falls.new)) }
 {
-    // No effect: named here so that the prover knows what holds of it.
-    let _so_far = second.schedule();
-    match item {
-        Item::Turn(thread) => follow_turn(alloc, second, falls, thread),
-        Item::Meet(_) => come(alloc, second, item),
-        Item::Exchange(_) => come(alloc, second, item),
-        Item::Clock(_) => come(alloc, second, item),
+    let failed = failed_by(alloc, second, item)?;
+    match failed {
+        Some(machine) => {
+            let fall = fall_of(alloc, second.program(), &machine)?;
+            falls.keep(machine.thread(), fall)
+        }
+        None => Ok(()),
     }
 }
 
@@ -188,9 +104,7 @@ fn follow_all(
     takers: &mut Takers,
     falls: &mut Falls,
 ) -> Result<(), AllocError>
-    requires program { second.old.course.program ≡ hub.now.course.program }
-    requires items { second.old.course.items ≡ [] }
-    requires none_out { NoneOut second.old }
+    requires begun { RunsAgain hub.now second.old 0 }
     requires none_taken { (m : ℕ) → taker_in takers.old m ≡ None }
     requires none_fallen { (t : ℕ) → fall_in falls.old t ≡ None }
     ensures takers { OnOk result (KnowsTakers (text_of hub.now.course.program) hub.now.course.items takers.new) }
@@ -225,7 +139,7 @@ pub(crate) fn retell(alloc: Global, hub: &Hub) -> Result<Retold, AllocError>
 {
     let mut takers = Takers::new(alloc);
     let mut falls = Falls::new(alloc);
-    let mut second = beginning(alloc, hub)?;
+    let mut second = begin_again(alloc, hub)?;
     let followed = follow_all(alloc, hub, &mut second, &mut takers, &mut falls);
     let_go(second);
     followed?;

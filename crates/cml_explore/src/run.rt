@@ -10,14 +10,9 @@ use crate::lot::run_by_lot;
 use crate::order::Order;
 use crate::priority::{Priorities, run_by_priority};
 use cml_check::Prog;
+use cml_ending::let_go;
 use cml_hub::{Hub, Seeded};
 use std::alloc::{AllocError, AllocFailed, Global};
-
-// The hub is used no more.
-#[inline(never)]
-pub(crate) fn let_go(hub: Hub) {
-    drop(hub);
-}
 
 // The hub runs to its end: ready threads have their turns in order, and rows are picked.
 fn run_out(alloc: Global, mut hub: Hub, span: usize, seed: u64) -> Result<Hub, AllocError>

@@ -1,15 +1,15 @@
 //! The lines of the threads that are left when a run has ended, or ended at a fault, in short.
 
-ghost use Rattle.std.specs.{Prelude.{◌≡◌, ◌++◌, ◌<◌, OnOk, IfOk, Some, map, length, slice_get}, Option.{option_and_then}};
+ghost use Rattle.std.specs.Prelude.{◌≡◌, ◌++◌, ◌<◌, OnOk, IfOk, Some, length, slice_get};
 ghost use Rattle.cml_scan.specs.World.{PlainThread};
-ghost use Rattle.cml_ending.specs.{Standings.{IsSpotOf, call_of_machine, spot_at}, Lines.{spot_place}};
+ghost use Rattle.cml_ending.specs.Standings.{IsSpotOf};
 ghost use Rattle.cml_explore.specs.{FallViews.{plain_fall, fall_in}, SightViews.{plain_sight}, ThreadLines.{AreSpotsToTell}};
 ghost use Rattle.cml_explore.specs.ThreadLines as spec;
 
 use crate::fall::{Fall, Falls};
-use cml_ending::{Spot, Takers, machine_spot, push_awaited, who_is};
+use cml_ending::{Spot, Takers, machine_spot, place_of, push_awaited, thread_spot, who_is};
 use cml_hub::Hub;
-use cml_phrase::{Place, push_line, push_thread, statement_place};
+use cml_phrase::{Place, push_line, push_thread};
 use cml_reason::push_reason;
 use cml_text::Sexpr;
 use cml_value::{Group, Tid};
@@ -18,6 +18,8 @@ use std::alloc::{AllocError, Global};
 /// What is spoken of.
 #[derive(Clone, Copy)]
 pub(crate) struct Sighted<'a> {
+    /// Where memory comes from.
+    pub(crate) alloc: Global,
     /// The script's forms.
     pub(crate) forms: &'a [Sexpr],
     /// Where the statements of each function stand in the text.
@@ -32,26 +34,14 @@ pub(crate) struct Sighted<'a> {
     pub(crate) spots: &'a [Option<Spot>],
 }
 
-// Where the thread of this number stands now.
-fn spot_now(hub: &Hub, thread: Tid) -> Option<Spot>
-    requires { thread.0 < length hub.now.course.world.threads }
-    ensures { IsSpotOf hub.now.course.program
-        (option_and_then call_of_machine (slice_get hub.now.course.machines thread.0)) result }
-{
-    match hub.machine(thread) {
-        Some(machine) => machine_spot(hub.program(), machine),
-        None => None,
-    }
-}
-
-// Where it stands; where it ended at a fault, where it stood before its last step.
-fn thread_spot(hub: &Hub, falls: &Falls, thread: Tid) -> Option<Spot>
+// Where the thread of this number stands; where it ended at a fault, where it stood before its last step.
+fn spot_to_tell(hub: &Hub, falls: &Falls, thread: Tid) -> Option<Spot>
     requires { thread.0 < length hub.now.course.world.threads }
     ensures { IsSpotOf hub.now.course.program (spec.call_of_thread hub.now.course (fall_in falls.now) thread.0) result }
 {
     match falls.of(thread.0) {
         Some(fall) => machine_spot(hub.program(), &fall.machine),
-        None => spot_now(hub, thread),
+        None => thread_spot(hub, thread),
     }
 }
 
@@ -69,28 +59,9 @@ pub(crate) fn spots_of(
 {
     let mut spots = Vec::new(alloc);
     for t in 0..hub.book().next_thread().0 {
-        spots.push(thread_spot(hub, falls, Tid(t)))?;
+        spots.push(spot_to_tell(hub, falls, Tid(t)))?;
     }
     Ok(spots)
-}
-
-// The spot of a thread.
-fn spot_here(spots: &[Option<Spot>], thread: u32) -> Option<Spot>
-    ensures { result ≡ spot_at spots.now thread }
-{
-    match spots.get(thread as usize) {
-        Some(spot) => *spot,
-        None => None,
-    }
-}
-
-// Where a spot is.
-fn place_of(places: &[Vec<Place>], spot: Option<Spot>) -> Option<Place>
-    ensures { result ≡ option_and_then (spot_place (map (λ own. own.items) places.now)) spot }
-{
-    let spot = spot?;
-    let statement = spot.statement?;
-    statement_place(places, spot.function, statement)
 }
 
 // Appends a line and a column, if they are known.
@@ -106,127 +77,93 @@ fn push_position(alloc: Global, out: &mut Vec<u8>, place: Option<Place>) -> Resu
     }
 }
 
-// Appends the thread, and where it stands.
-fn push_stand(
-    alloc: Global,
-    out: &mut Vec<u8>,
-    sight: &Sighted<'_>,
-    thread: u32,
-) -> Result<(), AllocError>
-    ensures { OnOk result (out.new.items ≡ out.old.items ++ spec.thread_stand (plain_sight sight.now) thread) }
-{
-    out.extend_from_slice(b"       ")?;
-    push_thread(alloc, out, sight.forms, who_is(sight.hub, thread))?;
-    let place = place_of(sight.places, spot_here(sight.spots, thread));
-    push_position(alloc, out, place)
-}
-
-// Appends the events for which a thread waits that waits on this group.
-fn push_events(
-    alloc: Global,
-    out: &mut Vec<u8>,
-    sight: &Sighted<'_>,
-    group: &Group,
-) -> Result<(), AllocError>
-    ensures { OnOk result (out.new.items ≡ out.old.items ++ spec.events_told (plain_sight sight.now) group.now) }
-{
-    push_awaited(alloc, out, sight.forms, sight.hub, sight.takers, group)
-}
-
-// Appends the line of a thread that waits on this group.
-fn push_waiting(
-    alloc: Global,
-    out: &mut Vec<u8>,
-    sight: &Sighted<'_>,
-    thread: u32,
-    group: &Group,
-) -> Result<(), AllocError>
-    ensures { OnOk result (out.new.items ≡ out.old.items ++ spec.waiting_left (plain_sight sight.now) thread group.now) }
-{
-    push_stand(alloc, out, sight, thread)?;
-    out.extend_from_slice(b": ")?;
-    push_events(alloc, out, sight, group)?;
-    out.extend_from_slice(b"\n")
-}
-
-// Appends the line of a thread that runs.
-fn push_running(
-    alloc: Global,
-    out: &mut Vec<u8>,
-    sight: &Sighted<'_>,
-    thread: u32,
-) -> Result<(), AllocError>
-    ensures { OnOk result (out.new.items ≡ out.old.items ++ spec.running_left (plain_sight sight.now) thread) }
-{
-    push_stand(alloc, out, sight, thread)?;
-    out.extend_from_slice(b" runs\n")
-}
-
-// Appends the line of a thread that ended at a fault.
-fn push_fallen(
-    alloc: Global,
-    out: &mut Vec<u8>,
-    sight: &Sighted<'_>,
-    thread: u32,
-    fall: &Fall,
-) -> Result<(), AllocError>
-    ensures { OnOk result (out.new.items ≡ out.old.items ++ spec.fall_left (plain_sight sight.now) thread (Some (plain_fall fall.now))) }
-{
-    push_stand(alloc, out, sight, thread)?;
-    out.extend_from_slice(b" ends at a fault: ")?;
-    push_reason(alloc, out, sight.hub.program(), &fall.machine, &fall.ask)?;
-    out.extend_from_slice(b"\n")
-}
-
-// Appends the line of a thread that has ended, if it did at a fault.
-fn push_ended(
-    alloc: Global,
-    out: &mut Vec<u8>,
-    sight: &Sighted<'_>,
-    thread: u32,
-) -> Result<(), AllocError>
-    ensures { OnOk result (out.new.items ≡ out.old.items ++ spec.fall_left (plain_sight sight.now) thread (fall_in sight.now.falls.now thread)) }
-{
-    match sight.falls.of(thread) {
-        Some(fall) => push_fallen(alloc, out, sight, thread, fall),
-        None => Ok(()),
+impl Sighted<'_> {
+    // Appends the thread, and where it stands.
+    fn push_stand(&self, out: &mut Vec<u8>, thread: u32) -> Result<(), AllocError>
+        ensures { OnOk result (out.new.items ≡ out.old.items ++ spec.thread_stand (plain_sight self.now) thread) }
+    {
+        out.extend_from_slice(b"       ")?;
+        push_thread(self.alloc, out, self.forms, who_is(self.hub, thread))?;
+        push_position(self.alloc, out, place_of(self.places, self.spots, thread))
     }
-}
 
-// Appends the line of the thread of this number, if it has one.
-fn push_left(
-    alloc: Global,
-    out: &mut Vec<u8>,
-    sight: &Sighted<'_>,
-    thread: u32,
-) -> Result<(), AllocError>
-    ensures { OnOk result ((t : PlainThread) → slice_get sight.now.hub.now.course.world.threads thread ≡ Some t →
-        out.new.items ≡ out.old.items ++ spec.left_line (plain_sight sight.now) thread t) }
-{
-    let book = sight.hub.book();
-    if book.is_running(Tid(thread)) {
-        return push_running(alloc, out, sight, thread);
+    // Appends the events for which a thread waits that waits on this group.
+    fn push_events(&self, out: &mut Vec<u8>, group: &Group) -> Result<(), AllocError>
+        ensures { OnOk result (out.new.items ≡ out.old.items ++ spec.events_told (plain_sight self.now) group.now) }
+    {
+        push_awaited(self.alloc, out, self.forms, self.hub, self.takers, group)
     }
-    match book.waiting(Tid(thread)) {
-        Some(group) => push_waiting(alloc, out, sight, thread, group),
-        None => push_ended(alloc, out, sight, thread),
-    }
-}
 
-/// Appends the lines of all threads that are left, or ended at a fault.
-///
-/// # Errors
-/// Out of memory.
-pub(crate) fn push_all_left(
-    alloc: Global,
-    out: &mut Vec<u8>,
-    sight: &Sighted<'_>,
-) -> Result<(), AllocError>
-    ensures { OnOk result (out.new.items ≡ out.old.items
-        ++ spec.all_left (plain_sight sight.now) 0 sight.now.hub.now.course.world.threads) }
-{
-    for t in 0..sight.hub.book().next_thread().0 {
-        push_left(alloc, out, sight, t)?;
+    // Appends the line of a thread that waits on this group.
+    fn push_waiting(&self, out: &mut Vec<u8>, thread: u32, group: &Group) -> Result<(), AllocError>
+        ensures { OnOk result (out.new.items ≡ out.old.items ++ spec.waiting_left (plain_sight self.now) thread group.now) }
+    {
+        self.push_stand(out, thread)?;
+        out.extend_from_slice(b": ")?;
+        self.push_events(out, group)?;
+        out.extend_from_slice(b"\n")
     }
-    Ok(())
+
+    // Appends the line of a thread that runs.
+    fn push_running(&self, out: &mut Vec<u8>, thread: u32) -> Result<(), AllocError>
+        ensures { OnOk result (out.new.items ≡ out.old.items ++ spec.running_left (plain_sight self.now) thread) }
+    {
+        self.push_stand(out, thread)?;
+        out.extend_from_slice(b" runs\n")
+    }
+
+    // Appends the line of a thread that ended at a fault.
+    fn push_fallen(&self, out: &mut Vec<u8>, thread: u32, fall: &Fall) -> Result<(), AllocError>
+        ensures { OnOk result (out.new.items ≡ out.old.items ++ spec.fall_left (plain_sight self.now) thread (Some (plain_fall fall.now))) }
+    {
+        self.push_stand(out, thread)?;
+        out.extend_from_slice(b" ends at a fault: ")?;
+        push_reason(
+            self.alloc,
+            out,
+            self.hub.program(),
+            &fall.machine,
+            &fall.ask,
+        )?;
+        out.extend_from_slice(b"\n")
+    }
+
+    // Appends the line of a thread that has ended, if it did at a fault.
+    fn push_ended(&self, out: &mut Vec<u8>, thread: u32) -> Result<(), AllocError>
+        ensures { OnOk result (out.new.items ≡ out.old.items ++ spec.fall_left (plain_sight self.now) thread (fall_in self.now.falls.now thread)) }
+    {
+        match self.falls.of(thread) {
+            Some(fall) => self.push_fallen(out, thread, fall),
+            None => Ok(()),
+        }
+    }
+
+    // Appends the line of the thread of this number, if it has one.
+    fn push_left(&self, out: &mut Vec<u8>, thread: u32) -> Result<(), AllocError>
+        ensures { OnOk result ((t : PlainThread) → slice_get self.now.hub.now.course.world.threads thread ≡ Some t →
+            out.new.items ≡ out.old.items ++ spec.left_line (plain_sight self.now) thread t) }
+    {
+        let book = self.hub.book();
+        if book.is_running(Tid(thread)) {
+            return self.push_running(out, thread);
+        }
+        match book.waiting(Tid(thread)) {
+            Some(group) => self.push_waiting(out, thread, group),
+            None => self.push_ended(out, thread),
+        }
+    }
+
+    /// Appends the lines of all threads that are left, or ended at a fault.
+    ///
+    /// # Errors
+    /// Out of memory.
+    pub(crate) fn push_all_left(&self, out: &mut Vec<u8>) -> Result<(), AllocError>
+        ensures { OnOk result (out.new.items ≡ out.old.items
+            ++ spec.all_left (plain_sight self.now) 0 self.now.hub.now.course.world.threads) }
+    {
+        for t in 0..self.hub.book().next_thread().0 {
+            self.push_left(out, t)?;
+        }
+        Ok(())
+    }
 }

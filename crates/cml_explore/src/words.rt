@@ -1,13 +1,13 @@
 //! The line of a class.
 
 ghost use Rattle.std.specs.{Prelude.{◌≡◌, ◌++◌, IfOk, OnOk, count_by, length, replicate}, Option.{option_copied}, Fmt.{decimal}};
-ghost use Rattle.cml_ending.specs.Lines.{many};
 ghost use Rattle.cml_explore.specs.{Words.{at_left, at_right}, ClassViews.{plain_class}};
 ghost use Rattle.cml_explore.specs.Words as spec;
 
 use crate::classes::{Class, Classes};
 use crate::detail::Detail;
 use crate::tally::Tally;
+use cml_ending::{push_many, push_number};
 use std::alloc::{AllocError, Global};
 
 /// How wide the columns are.
@@ -19,38 +19,6 @@ pub(crate) struct Widths {
     pub(crate) words: usize,
     /// That of the number of outputs.
     pub(crate) outputs: usize,
-}
-
-/// Appends a number.
-///
-/// # Errors
-/// Out of memory.
-pub(crate) fn push_number(alloc: Global, out: &mut Vec<u8>, number: u64) -> Result<(), AllocError>
-    ensures { OnOk result (out.new.items ≡ out.old.items ++ decimal number) }
-{
-    let digits = format!(in alloc; "{number}")?;
-    out.extend_from_slice(digits.as_bytes())
-}
-
-/// Appends how many there are of a thing, where one is called so, and more are.
-///
-/// # Errors
-/// Out of memory.
-pub(crate) fn push_many(
-    alloc: Global,
-    out: &mut Vec<u8>,
-    one: &str,
-    more: &str,
-    count: u64,
-) -> Result<(), AllocError>
-    ensures { OnOk result (out.new.items ≡ out.old.items ++ many one.now more.now count) }
-{
-    push_number(alloc, out, count)?;
-    if count == 1 {
-        out.extend_from_slice(one.as_bytes())
-    } else {
-        out.extend_from_slice(more.as_bytes())
-    }
 }
 
 // Appends so many spaces.

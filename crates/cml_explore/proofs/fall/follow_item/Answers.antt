@@ -1,25 +1,18 @@
-use Rattle.std.proofs.Common.{ap}
-use Rattle.cml_step.specs.Calls.{text_of}
-use Rattle.cml_hub.specs.Courses.{run_of}
-use Rattle.cml_fault.specs.Failures.{failure_by}
-use Rattle.cml_explore.specs.FallViews.{fall_in}
-use Rattle.cml_explore.proofs.FallLemmas.{item_still}
+use Rattle.std.proofs.Common.{subst, ◌∙◌}
+use Rattle.cml_fault.specs.Failed.{FailsSo}
+use Rattle.cml_fault.proofs.BlockLemmas.{always}
+use Rattle.cml_explore.specs.FallViews.{plain_fall, fall_in}
+use Rattle.cml_explore.proofs.FallLemmas.{still_fallen, more_fallen}
 use Rattle.cml_explore.proofs.fall.follow_item.Goals as goal
 
-pub returns-in-Meet-clause-falls : goal.returns-in-Meet-clause-falls
-returns-in-Meet-clause-falls c =
-    let h = c.args.second.now.course in
-    item_still c.come.result h c.come.new.hub.course c.args.item (fall_in c.args.falls.now)
-    c.schedule-so_far.ensures.leads (ap (failure_by (text_of h.program) (run_of h)) c.in-Meet.is) c.come.ensures.items
+pub returns-in-Some : goal.returns-in-Some
+returns-in-Some c = record {
+  came = always c.keep.result c.in_ok-failed.ensures.came;
+  falls = more_fallen c.keep.result c.args.second.now.course c.args.item c.program.result.now c.in-Some.machine (plain_fall c.in_ok-fall.fall) c.thread.result.0
+      (fall_in c.args.falls.now) (fall_in c.keep.new.self) (subst (FailsSo c.args.second.now.course c.args.item) c.in-Some.is c.in_ok-failed.ensures.failed)
+      (c.program.ensures ∙ c.in_ok-failed.ensures.came.adds.program) c.thread.ensures c.in_ok-fall.ensures c.keep.ensures;
+}
 
-pub returns-in-Exchange-clause-falls : goal.returns-in-Exchange-clause-falls
-returns-in-Exchange-clause-falls c =
-    let h = c.args.second.now.course in
-    item_still c.come-in-Exchange.result h c.come-in-Exchange.new.hub.course c.args.item (fall_in c.args.falls.now)
-    c.schedule-so_far.ensures.leads (ap (failure_by (text_of h.program) (run_of h)) c.in-Exchange.is) c.come-in-Exchange.ensures.items
-
-pub returns-in-Clock-clause-falls : goal.returns-in-Clock-clause-falls
-returns-in-Clock-clause-falls c =
-    let h = c.args.second.now.course in
-    item_still c.come-in-Clock.result h c.come-in-Clock.new.hub.course c.args.item (fall_in c.args.falls.now)
-    c.schedule-so_far.ensures.leads (ap (failure_by (text_of h.program) (run_of h)) c.in-Clock.is) c.come-in-Clock.ensures.items
+pub returns-in-None-clause-falls : goal.returns-in-None-clause-falls
+returns-in-None-clause-falls c = still_fallen c.args.second.now.course c.args.item (fall_in c.args.falls.now)
+    (subst (FailsSo c.args.second.now.course c.args.item) c.in-None.is c.in_ok-failed.ensures.failed)

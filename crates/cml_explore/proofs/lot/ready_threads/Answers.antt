@@ -1,16 +1,17 @@
-use Rattle.std.proofs.Common.{◌≡◌, arith, ap, length, subst}
-use Rattle.std.specs.Prelude.{Some, slice_get, ◌++◌}
+use Rattle.std.proofs.Common.{◌≡◌, ◌++◌, arith, subst}
+use Rattle.std.specs.Prelude.{Some, slice_get}
 use Rattle.cml_scan.specs.World.{PlainWorld, PlainThread}
+use Rattle.cml_ending.proofs.ThreadLemmas.{one_thread_more, no_thread_more}
 use Rattle.cml_explore.specs.Lots.{ready_of}
-use Rattle.cml_explore.proofs.LotLemmas.{ready_more, no_more_ready}
+use Rattle.cml_explore.proofs.LotLemmas.{ready_made}
 use Rattle.cml_explore.proofs.lot.ready_threads.Goals as goal
 
 pub loop-t-preserved : goal.loop-t-preserved
 loop-t-preserved c =
-    ready_more c.args.hub.now.course.world.threads c.loop-t.t _ _ _ (omega (arith, ap (λ (w : PlainWorld). length w.threads) c.book.ensures))
-    (subst (λ (w : PlainWorld). (t : PlainThread) → slice_get w.threads c.loop-t.t ≡ Some t
-    → c.push_ready.new.ready.items ≡ c.loop-t.ready.items ++ ready_of c.loop-t.t t) c.book-in-loop-t.ensures
-    c.in_ok-push_ready.ensures) c.loop-t.invariant
+    one_thread_more ready_made c.book.ensures c.loop-t.t _ _ _ (omega arith)
+    (subst (λ (w : PlainWorld). (t : PlainThread) → slice_get w.threads c.loop-t.t ≡ Some t → c.push_ready.new.ready.items ≡ c.loop-t.ready.items ++ ready_of c.loop-t.t t)
+    c.book-in-loop-t.ensures c.in_ok-push_ready.ensures)
+    c.loop-t.invariant
 
 pub returns : goal.returns
-returns c = no_more_ready c.args.hub.now.course.world.threads c.loop-t.t _ _ (omega (arith, ap (λ (w : PlainWorld). length w.threads) c.book.ensures)) c.loop-t.invariant
+returns c = no_thread_more ready_made c.book.ensures c.loop-t.t _ _ (omega arith) c.loop-t.invariant

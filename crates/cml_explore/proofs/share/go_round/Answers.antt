@@ -33,30 +33,21 @@ loop-part-preserved g c =
     c.loop-part-test.true
     c.join_part.new.made c.in_ok-stopped.stopped c.if-stopped.false c.in_ok-stopped.ensures
 
-pub returns-then-stopped-clause-more : goal.returns-then-stopped-clause-more
-returns-then-stopped-clause-more g c =
-    (next_last c.args.program.now c.args.asked.now c.args.so_far.now c.part_count-count.result c.as_slice-all.result.now
+pub returns-then-stopped : goal.returns-then-stopped
+returns-then-stopped g c =
+    let last = next_last c.args.program.now c.args.asked.now c.args.so_far.now c.part_count-count.result c.as_slice-all.result.now
     c.loop-part.part-index c.loop-part.made c.loop-part.invariant c.part-item.result c.part-item.is
     c.loop-part-test.true
-    c.join_part.new.made c.in_ok-stopped.stopped c.if-stopped.true c.in_ok-stopped.ensures).1
+    c.join_part.new.made c.in_ok-stopped.stopped c.if-stopped.true c.in_ok-stopped.ensures in
+    record { more = last.1; made = last.0 }
 
-pub returns-then-stopped-clause-made : goal.returns-then-stopped-clause-made
-returns-then-stopped-clause-made g c =
-    (next_last c.args.program.now c.args.asked.now c.args.so_far.now c.part_count-count.result c.as_slice-all.result.now
-    c.loop-part.part-index c.loop-part.made c.loop-part.invariant c.part-item.result c.part-item.is
-    c.loop-part-test.true
-    c.join_part.new.made c.in_ok-stopped.stopped c.if-stopped.true c.in_ok-stopped.ensures).0
-
-pub returns-clause-more : goal.returns-clause-more
-returns-clause-more g c =
-    (round_ends c.args.program.now c.args.asked.now c.args.so_far.now c.part_count-count.result
-    c.as_slice-all.result.now c.loop-part.part-index c.loop-part.made c.loop-part.invariant (omega arith)
-    c.part_count-count.ensures.some c.requires.left).0
-
-pub returns-clause-made : goal.returns-clause-made
-returns-clause-made g c =
+pub returns : goal.returns
+returns g c =
     let ends = round_ends c.args.program.now c.args.asked.now c.args.so_far.now c.part_count-count.result
     c.as_slice-all.result.now c.loop-part.part-index c.loop-part.made c.loop-part.invariant (omega arith)
     c.part_count-count.ensures.some c.requires.left in
-    made_so c.are_all-last.result c.args.program.now c.args.asked.now c.loop-part.made c.loop-part.invariant.here ends.1
-    (c.are_all-last.ensures ∙ ap (λ n. n == c.args.asked.now.runs) c.runs-so_many.ensures)
+    record {
+      more = ends.0;
+      made = made_so c.are_all-last.result c.args.program.now c.args.asked.now c.loop-part.made c.loop-part.invariant.here ends.1
+          (c.are_all-last.ensures ∙ ap (λ n. n == c.args.asked.now.runs) c.runs-so_many.ensures);
+    }

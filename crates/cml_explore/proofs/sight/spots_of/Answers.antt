@@ -11,7 +11,7 @@ loop-t-preserved c =
     let h = c.args.hub.now.course in
     let falls = fall_in c.args.falls.now in
     record {
-      as_many = ap length c.in_ok-push.ensures.items ∙ (length_push c.loop-t.spots.items c.thread_spot.result ∙ ap (λ n. n + 1) c.loop-t.invariant.as_many);
+      as_many = ap length c.in_ok-push.ensures.items ∙ (length_push c.loop-t.spots.items c.spot_to_tell.result ∙ ap (λ n. n + 1) c.loop-t.invariant.as_many);
       so_far = subst (λ spots. (t : ℕ) → t < c.loop-t.t + 1 → IsSpotOf h.program (call_of_thread h falls t) (spot_at spots t)) (sym c.in_ok-push.ensures.items)
-          (spot_more h.program (call_of_thread h falls) c.loop-t.spots.items c.thread_spot.result c.loop-t.t c.loop-t.invariant.as_many c.thread_spot.ensures c.loop-t.invariant.so_far);
+          (spot_more h.program (call_of_thread h falls) c.loop-t.spots.items c.spot_to_tell.result c.loop-t.t c.loop-t.invariant.as_many c.spot_to_tell.ensures c.loop-t.invariant.so_far);
     }

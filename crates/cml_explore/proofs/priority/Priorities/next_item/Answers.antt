@@ -5,16 +5,11 @@ use Rattle.cml_explore.specs.Priorities.{PlainPriorities}
 use Rattle.cml_explore.proofs.PriorityLemmas.{next_acts}
 use Rattle.cml_explore.proofs.priority.Priorities.next_item.Goals as goal
 
-pub returns-clause-item : goal.returns-clause-item
-returns-clause-item c =
-    c.act.ensures.item
-    ∙ ap (λ (d : Option Item × PlainPriorities). d.0)
-    (next_acts _ c.args.hub.now.course.world c.args.self.now c.args.ready.now c.highest-highest.result
-    c.actor-thread.result c.requires c.highest-highest.ensures c.actor-thread.ensures)
-
-pub returns-clause-state : goal.returns-clause-state
-returns-clause-state c =
-    c.act.ensures.state
-    ∙ ap (λ (d : Option Item × PlainPriorities). d.1)
-    (next_acts _ c.args.hub.now.course.world c.args.self.now c.args.ready.now c.highest-highest.result
-    c.actor-thread.result c.requires c.highest-highest.ensures c.actor-thread.ensures)
+pub returns : goal.returns
+returns c =
+    let acts = next_acts _ c.args.hub.now.course.world c.args.self.now c.args.ready.now c.highest-highest.result
+    c.actor-thread.result c.requires c.highest-highest.ensures c.actor-thread.ensures in
+    record {
+      item = c.act.ensures.item ∙ ap (λ (d : Option Item × PlainPriorities). d.0) acts;
+      state = c.act.ensures.state ∙ ap (λ (d : Option Item × PlainPriorities). d.1) acts;
+    }
