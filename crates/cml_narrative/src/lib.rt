@@ -7,8 +7,10 @@ mod line;
 mod narrator;
 mod plan;
 mod tell;
+mod teller;
 mod why;
 
-pub use commit::taken_at;
+pub use commit::{fired_at, given_value, handed_value, leaves_of, push_more_nacks, taken_at};
 pub use narrator::Narrator;
-pub use why::push_why;
+pub use teller::Teller;
+pub use why::{first_running, push_why};

@@ -3,7 +3,7 @@
 ghost use Rattle.std.specs.{Prelude.{◌≡◌, ◌++◌, ◌-◌, ◌∷◌, [], IfOk, OnOk, length, max, codes}, Fmt.{decimal}};
 ghost use Rattle.cml_narrative.specs.Lines as spec;
 
-use crate::asked::push_numbered;
+use cml_phrase::push_numbered;
 use std::alloc::{AllocError, Global};
 
 // Where a line says how much could happen.

@@ -7,7 +7,7 @@ ghost use Rattle.cml_step.specs.Answers as answers;
 ghost use Rattle.cml_narrative.specs.{Tales.{Plans}, Tellers.{StandsAsking}};
 ghost use Rattle.cml_narrative.specs.Tales as spec;
 
-use crate::asked::push_asked;
+use crate::teller::Teller;
 use cml_check::Prog;
 use cml_ending::{Spot, machine_spot};
 use cml_hub::Hub;
@@ -88,7 +88,8 @@ fn plan_of(
     let slice = run_slice(alloc, hub.program(), machine)?;
     let spot = slice_spot(alloc, hub.program(), machine, &slice)?;
     let mut asked = Vec::new(alloc);
-    push_asked(alloc, &mut asked, forms, hub.book(), &slice.ask)?;
+    let teller = Teller { alloc, forms, hub };
+    teller.push_asked(&mut asked, &slice.ask)?;
     Ok(Planned { spot, asked })
 }
 

@@ -8,14 +8,14 @@ ghost use Rattle.cml_phrase.specs.Spots.{all_places};
 ghost use Rattle.cml_narrative.specs.{Lines.{number_words}, Tales.{Plans, ToldSo}, Tellers.{tale_of, Knows, awaited_of, turn_head}};
 ghost use Rattle.cml_narrative.specs.Tales as spec;
 
-use crate::asked::{push_numbered, push_two};
-use crate::commit::{push_commit, push_named};
+use crate::asked::push_two;
 use crate::line::{number_digits, number_words, push_told};
 use crate::narrator::Narrator;
 use crate::plan::{Planned, next_plan};
+use crate::teller::Teller;
 use cml_ending::{Spot, Takers, push_awaited};
 use cml_hub::{Hub, Item};
-use cml_phrase::{Place, push_line, statement_place, statement_places};
+use cml_phrase::{Place, push_line, push_numbered, statement_place, statement_places};
 use cml_scan::{Meet, Table};
 use cml_text::Sexpr;
 use cml_value::Tid;
@@ -190,7 +190,12 @@ impl Narrator<'_> {
             ≡ turn_head hub.now.course self.now thread.0 plan.now.spot (codes "ends at a fault: " ++ name)) }
     {
         let mut words = self.numbered(alloc, hub)?;
-        push_named(alloc, &mut words, self.forms, hub, thread)?;
+        let teller = Teller {
+            alloc,
+            forms: self.forms,
+            hub,
+        };
+        teller.push_named(&mut words, thread)?;
         self.push_spot(alloc, &mut words, plan.spot)?;
         if failed {
             push_fault(alloc, &mut words, hub, thread, printed)?;
@@ -271,7 +276,12 @@ impl Narrator<'_> {
         ensures knows { IfOk result (λ came. IsTrue came → Knows hub.old.course self.old → Knows hub.new.course self.new) }
     {
         let mut said = Vec::new(alloc);
-        push_commit(alloc, &mut said, self.forms, hub, row)?;
+        let teller = Teller {
+            alloc,
+            forms: self.forms,
+            hub,
+        };
+        teller.push_commit(&mut said, row)?;
         let before = could_count(hub);
         if !self.follow(alloc, hub, item)? {
             return Ok(false);
@@ -340,11 +350,7 @@ fn push_fault(
 fn behind(bytes: &[u8], count: usize) -> &[u8]
     ensures { result.now ≡ drop count bytes.now }
 {
-    if count < bytes.len() {
-        &bytes[count..]
-    } else {
-        &[]
-    }
+    &bytes[count.min(bytes.len())..]
 }
 
 // The name of a fault in what was printed: behind so many bytes, and the start of its line, up to the line feed at the end.

@@ -5,14 +5,10 @@ use Rattle.cml_narrative.proofs.plan.next_plan.Goals as goal
 
 pub plan_of-requires-clause-fits : goal.plan_of-requires-clause-fits
 plan_of-requires-clause-fits c =
-    let w = c.args.hub.now.course.world in
     let runs = rw c.book.ensures at (sym c.is_running.ensures ∙ c.if-not-is_running.false) in
-    let goes = c.in-Some.ensures.stands running (running_is w c.args.thread.0 runs) in
-    goes.0
+    (c.in-Some.ensures.stands running (running_is c.args.hub.now.course.world c.args.thread.0 runs)).0
 
 pub plan_of-requires-clause-awaits : goal.plan_of-requires-clause-awaits
 plan_of-requires-clause-awaits c =
-    let w = c.args.hub.now.course.world in
     let runs = rw c.book.ensures at (sym c.is_running.ensures ∙ c.if-not-is_running.false) in
-    let goes = c.in-Some.ensures.stands running (running_is w c.args.thread.0 runs) in
-    goes.1
+    (c.in-Some.ensures.stands running (running_is c.args.hub.now.course.world c.args.thread.0 runs)).1

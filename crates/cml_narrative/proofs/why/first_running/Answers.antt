@@ -1,5 +1,4 @@
-use Rattle.std.proofs.Common.{◌∙◌, sym, ap, cond, Some, drop}
-use Rattle.std.proofs.Common.{arith, ◌+◌}
+use Rattle.std.proofs.Common.{◌+◌, ◌∙◌, sym, ap, cond, Some, drop, arith}
 use Rattle.cml_narrative.specs.Whys.{first_running}
 use Rattle.cml_narrative.proofs.WhyLemmas.{runs_first}
 use Rattle.cml_narrative.proofs.why.first_running.Goals as goal

@@ -1,4 +1,4 @@
-use Rattle.cml_narrative.proofs.commit.push_single.Goals as goal
+use Rattle.cml_narrative.proofs.teller.Teller.push_single.Goals as goal
 
 pub returns : goal.returns
 returns c = rw (c.in_ok-taken.ensures, c.book.ensures) at c.push_single_taken.ensures
