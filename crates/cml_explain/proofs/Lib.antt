@@ -4,3 +4,4 @@ pub mod StandLemmas
 pub mod LetLemmas
 pub mod NearLemmas
 pub mod TextLemmas
+pub mod KeywordLemmas

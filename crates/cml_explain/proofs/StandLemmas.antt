@@ -91,14 +91,5 @@ pub stand-end : (at : ℕ) (role : Role) (layout : Layout) (given i : ℕ) (form
 unfolding stand_among
 stand-end at role layout given i forms all le inv = ap (λ fs. stand_among at role layout given i (plain_forms fs)) (sym (drop_of_length-le forms le)) ∙ inv
 
--- a form of a list lies lower than the list
-deepest : (forms : List PlainSexpr) (i : ℕ) (d : PlainSexpr) → i < length forms → nesting (get_or forms i d) ≤ nesting_of (plain_forms forms)
-deepest [] i d lt = absurd (omega arith)
-deepest (form ∷ forms) zero d lt = omega arith
-deepest (form ∷ forms) (suc i) d lt = let h : nesting (get_or forms i d) ≤ nesting_of (plain_forms forms) = deepest forms i d (omega arith) in omega arith
-
-pub member-below : (forms : List PlainSexpr) (i : ℕ) (form : PlainSexpr) → i < length forms → form ≡ get_or forms i form → nesting form ≤ nesting_of (plain_forms forms)
-member-below forms i form lt is = rw is (deepest forms i form lt)
-
 pub list-below : (form : PlainSexpr) (forms : List PlainSexpr) → form ≡ plain_list (span_of form) (plain_forms forms) → nesting form ≡ nesting_of (plain_forms forms) + 1
 list-below form forms is = ap nesting is

@@ -1,7 +1,8 @@
 //! What is said of each trouble.
 
-ghost use Rattle.std.specs.{Prelude.{◌≡◌, ◌++◌, IfOk, OnOk}, String.{string_bytes}};
+ghost use Rattle.std.specs.{Prelude.{◌≡◌, ◌++◌, IfOk, OnOk, List, ℕ}, String.{string_bytes}};
 ghost use Rattle.cml_explain.specs.Messages as spec;
+ghost use Rattle.cml_explain.specs.MessageViews.{said_with};
 
 use crate::keyword::{Keyword, Layout};
 use crate::piece::name_spelled;
@@ -40,15 +41,7 @@ fn no_such(role: Role) -> &'static str
         }
         Role::Statement => "` is no statement or effect",
         Role::Source => "` is no event, effect or other expression",
-        Role::FunctionName
-        | Role::Parameters
-        | Role::Parameter
-        | Role::Block
-        | Role::Variable
-        | Role::SetValue
-        | Role::Value
-        | Role::Called
-        | Role::Keyword => "` is no event or other expression",
+        _ => "` is no event or other expression",
     }
 }
 
@@ -82,12 +75,59 @@ fn counted(alloc: Global, keyword: Keyword, given: usize) -> Result<String, Allo
     }
 }
 
-// What is said around a name.
-fn around(alloc: Global, before: &str, name: &str, behind: &str) -> Result<String, AllocError>
-    ensures { IfOk result (λ text.
-        string_bytes text ≡ before.now ++ (name.now ++ behind.now)) }
+// The words that are said of a trouble.
+#[derive(Clone, Copy)]
+enum Said {
+    // These alone.
+    Words(&'static str),
+    // These behind the name.
+    Behind(&'static str),
+    // These before the name, and those behind it.
+    Around(&'static str, &'static str),
+    // How many parts a keyword takes and is given.
+    Parts(Keyword, usize),
+}
+
+// What is said of a trouble.
+fn said_of(trouble: Trouble) -> Said
+    ensures { (name : List ℕ) → said_with result name ≡ spec.message trouble name }
 {
-    format!(in alloc; "{before}{name}{behind}")
+    match trouble {
+        Trouble::Wanted(role) => Said::Words(wanted(role)),
+        Trouble::Unknown(role) => Said::Around("`", no_such(role)),
+        Trouble::Count(keyword, given) => Said::Parts(keyword, given),
+        Trouble::Hollow => Said::Words("() is no value; the value that says nothing is unit"),
+        Trouble::Reserved => Said::Around("`", "` is a keyword, so it can't be a name"),
+        Trouble::Twice => Said::Around("the parameter `", "` stands twice"),
+        Trouble::Outside => {
+            Said::Behind(" can't stand outside a function: (fn NAME (PARAMETER*) STATEMENT*)")
+        }
+        Trouble::Nested => Said::Behind(
+            " begins a function, which can't stand inside another; is the one before it closed?",
+        ),
+        Trouble::Loose => Said::Behind(" begins a block, which stands only in an if"),
+        Trouble::Bare => Said::Behind(" stands without parentheses"),
+        Trouble::Acts => Said::Behind(
+            " has an effect, so it can't stand inside another form; give it a name with let first",
+        ),
+        Trouble::ActsInSet => {
+            Said::Behind(" has an effect, and set takes a value; give it a name with let first")
+        }
+        Trouble::Commands => {
+            Said::Behind(" is a statement, so it can't stand inside an expression")
+        }
+        Trouble::Unused => {
+            Said::Behind(" gives a value, which is not used here; give it a name with let")
+        }
+        Trouble::Undeclared => Said::Around("`", "` is not declared"),
+        Trouble::NoFunction => Said::Around("there is no function `", "`"),
+        Trouble::Again => Said::Around("there is a function `", "` already"),
+        Trouble::Given => Said::Around("`", "` takes another number of values"),
+        Trouble::MainTakes => Said::Words("`main` takes no values, so it can't have parameters"),
+        Trouble::NoMain => Said::Words("there is no function `main`"),
+        Trouble::ManyFunctions => Said::Words("a script has at most 1024 functions"),
+        Trouble::ManyStatements => Said::Words("a script has at most 4096 statements"),
+    }
 }
 
 /// What is said of a trouble with this name.
@@ -97,68 +137,11 @@ fn around(alloc: Global, before: &str, name: &str, behind: &str) -> Result<Strin
 pub fn message_of(alloc: Global, trouble: Trouble, name: &str) -> Result<String, AllocError>
     ensures { IfOk result (λ text. string_bytes text ≡ spec.message trouble name.now) }
 {
-    match trouble {
-        Trouble::Wanted(role) => String::from_str(alloc, wanted(role)),
-        Trouble::Unknown(role) => around(alloc, "`", name, no_such(role)),
-        Trouble::Count(keyword, given) => counted(alloc, keyword, given),
-        Trouble::Hollow => {
-            String::from_str(alloc, "() is no value; the value that says nothing is unit")
-        }
-        Trouble::Reserved => around(alloc, "`", name, "` is a keyword, so it can't be a name"),
-        Trouble::Twice => around(alloc, "the parameter `", name, "` stands twice"),
-        Trouble::Outside => around(
-            alloc,
-            "",
-            name,
-            " can't stand outside a function: (fn NAME (PARAMETER*) STATEMENT*)",
-        ),
-        Trouble::Nested => around(
-            alloc,
-            "",
-            name,
-            " begins a function, which can't stand inside another; is the one before it closed?",
-        ),
-        Trouble::Loose => around(
-            alloc,
-            "",
-            name,
-            " begins a block, which stands only in an if",
-        ),
-        Trouble::Bare => around(alloc, "", name, " stands without parentheses"),
-        Trouble::Acts => around(
-            alloc,
-            "",
-            name,
-            " has an effect, so it can't stand inside another form; give it a name with let first",
-        ),
-        Trouble::ActsInSet => around(
-            alloc,
-            "",
-            name,
-            " has an effect, and set takes a value; give it a name with let first",
-        ),
-        Trouble::Commands => around(
-            alloc,
-            "",
-            name,
-            " is a statement, so it can't stand inside an expression",
-        ),
-        Trouble::Unused => around(
-            alloc,
-            "",
-            name,
-            " gives a value, which is not used here; give it a name with let",
-        ),
-        Trouble::Undeclared => around(alloc, "`", name, "` is not declared"),
-        Trouble::NoFunction => around(alloc, "there is no function `", name, "`"),
-        Trouble::Again => around(alloc, "there is a function `", name, "` already"),
-        Trouble::Given => around(alloc, "`", name, "` takes another number of values"),
-        Trouble::MainTakes => {
-            String::from_str(alloc, "`main` takes no values, so it can't have parameters")
-        }
-        Trouble::NoMain => String::from_str(alloc, "there is no function `main`"),
-        Trouble::ManyFunctions => String::from_str(alloc, "a script has at most 1024 functions"),
-        Trouble::ManyStatements => String::from_str(alloc, "a script has at most 4096 statements"),
+    match said_of(trouble) {
+        Said::Words(words) => String::from_str(alloc, words),
+        Said::Behind(words) => format!(in alloc; "{name}{words}"),
+        Said::Around(before, behind) => format!(in alloc; "{before}{name}{behind}"),
+        Said::Parts(keyword, given) => counted(alloc, keyword, given),
     }
 }
 
@@ -209,15 +192,7 @@ fn handed(layout: Layout, given: usize) -> usize
     match layout {
         Layout::Wrap => given.saturating_sub(2) + 1,
         Layout::WithNack => given.saturating_sub(1) + 1,
-        Layout::Script
-        | Layout::Item
-        | Layout::Block
-        | Layout::Let
-        | Layout::Set
-        | Layout::If
-        | Layout::While
-        | Layout::Call
-        | Layout::Values => given.saturating_sub(1),
+        _ => given.saturating_sub(1),
     }
 }
 
@@ -228,15 +203,7 @@ fn later(layout: Layout) -> &'static str
     match layout {
         Layout::Wrap => ", the last of them the value of the event",
         Layout::WithNack => ", the last of them the nack",
-        Layout::Script
-        | Layout::Item
-        | Layout::Block
-        | Layout::Let
-        | Layout::Set
-        | Layout::If
-        | Layout::While
-        | Layout::Call
-        | Layout::Values => "",
+        _ => "",
     }
 }
 

@@ -2,7 +2,7 @@
 
 ghost use Rattle.std.specs.{Prelude.{◌≡◌, ◌++◌, IfOk, find}, Option.{option_map}, Str.{bytes_eq}};
 ghost use Rattle.cml_place.specs.Diagnoses.{plain_note};
-ghost use Rattle.cml_explain.specs.{Nearest.{keyword_near}, Pieces.{name_spelled, item_named, item_near}, Stands.{item_over}};
+ghost use Rattle.cml_explain.specs.{Nearest.{keyword_near}, Pieces.{name_spelled, item_name, item_start, item_named, item_near}, Stands.{item_over}};
 ghost use Rattle.cml_explain.specs.LetViews.{plain_declared, all_declared};
 ghost use Rattle.cml_explain.specs.Notes as spec;
 
@@ -36,54 +36,12 @@ fn placed(
     })
 }
 
-/// A function, and where it is declared.
-///
-/// # Errors
-/// Out of memory.
-pub fn item_note(alloc: Global, item: &Sexpr) -> Result<Note, AllocError>
-    ensures { IfOk result (λ note. plain_note note ≡ spec.item_note item.now) }
+// What is said of the place of a function.
+fn item_placed(alloc: Global, before: &str, item: &Sexpr, behind: &str) -> Result<Note, AllocError>
+    ensures { IfOk result (λ note. plain_note note
+        ≡ spec.place_note before.now (item_name item.now) behind.now (item_start item.now)) }
 {
-    placed(
-        alloc,
-        "`",
-        item_name(item),
-        "` is declared",
-        item_start(item),
-    )
-}
-
-// The first function of a name.
-fn first_note(alloc: Global, item: &Sexpr) -> Result<Note, AllocError>
-    ensures { IfOk result (λ note. plain_note note ≡ spec.first_note item.now) }
-{
-    placed(
-        alloc,
-        "the first `",
-        item_name(item),
-        "` is declared",
-        item_start(item),
-    )
-}
-
-// A function that stands where a variable is wanted.
-fn no_variable_note(alloc: Global, item: &Sexpr) -> Result<Note, AllocError>
-    ensures { IfOk result (λ note. plain_note note ≡ spec.no_variable_note item.now) }
-{
-    placed(
-        alloc,
-        "`",
-        item_name(item),
-        "` is a function, declared",
-        item_start(item),
-    )
-}
-
-// A function that stands where a keyword is wanted.
-fn no_keyword_note(alloc: Global, item: &Sexpr) -> Result<Note, AllocError>
-    ensures { IfOk result (λ note. plain_note note ≡ spec.no_keyword_note item.now) }
-{
-    let behind = "` is a function, for call or spawn, declared";
-    placed(alloc, "`", item_name(item), behind, item_start(item))
+    placed(alloc, before, item_name(item), behind, item_start(item))
 }
 
 // A variable, and where it is declared.
@@ -133,6 +91,18 @@ fn parameter_note(alloc: Global, form: &Sexpr) -> Result<Note, AllocError>
     let words = String::from_str(alloc, "the first one stands")?.into_bytes();
     let at = Some(form.span().start);
     Ok(Note { words, at })
+}
+
+// A function that stands where a keyword is wanted.
+fn no_keyword_note(alloc: Global, item: &Sexpr) -> Result<Note, AllocError>
+    ensures { IfOk result (λ note. plain_note note ≡ spec.no_keyword_note item.now) }
+{
+    item_placed(
+        alloc,
+        "`",
+        item,
+        "` is a function, for call or spawn, declared",
+    )
 }
 
 // What is added where a list begins with a name that is no keyword.
@@ -218,6 +188,13 @@ fn names_over(alloc: Global, item: Option<&Sexpr>) -> Result<Vec<Declared<'_>>, 
     }
 }
 
+// A function that stands where a variable is wanted.
+fn no_variable_note(alloc: Global, item: &Sexpr) -> Result<Note, AllocError>
+    ensures { IfOk result (λ note. plain_note note ≡ spec.no_variable_note item.now) }
+{
+    item_placed(alloc, "`", item, "` is a function, declared")
+}
+
 // What is added where a name is declared by none of these that are known.
 fn undeclared_among(
     alloc: Global,
@@ -256,6 +233,16 @@ fn undeclared_note(
     undeclared_among(alloc, at, name, items, found.as_slice())
 }
 
+/// A function, and where it is declared.
+///
+/// # Errors
+/// Out of memory.
+pub fn item_note(alloc: Global, item: &Sexpr) -> Result<Note, AllocError>
+    ensures { IfOk result (λ note. plain_note note ≡ spec.item_note item.now) }
+{
+    item_placed(alloc, "`", item, "` is declared")
+}
+
 // A function, and where it is declared, if there is one.
 fn option_item_note(alloc: Global, item: Option<&Sexpr>) -> Result<Option<Note>, AllocError>
     ensures { IfOk result (λ note. option_map plain_note note
@@ -273,6 +260,13 @@ pub fn nearest_note(alloc: Global, name: &str, items: &[Sexpr]) -> Result<Option
         ≡ option_map spec.item_note (item_near name.now items.now)) }
 {
     option_item_note(alloc, nearest_item(name, items))
+}
+
+// The first function of a name.
+fn first_note(alloc: Global, item: &Sexpr) -> Result<Note, AllocError>
+    ensures { IfOk result (λ note. plain_note note ≡ spec.first_note item.now) }
+{
+    item_placed(alloc, "the first `", item, "` is declared")
 }
 
 // The first function of this name, and where it is declared, if there is one.
@@ -309,20 +303,6 @@ pub fn note_by(
         Trouble::NoFunction => nearest_note(alloc, name, items),
         Trouble::Again => first_by(alloc, name, items),
         Trouble::Given => option_item_note(alloc, item_named(name, items)),
-        Trouble::Wanted(_) => Ok(None),
-        Trouble::Hollow
-        | Trouble::Reserved
-        | Trouble::Outside
-        | Trouble::Nested
-        | Trouble::Loose
-        | Trouble::Bare
-        | Trouble::Acts
-        | Trouble::ActsInSet
-        | Trouble::Commands
-        | Trouble::Unused
-        | Trouble::MainTakes
-        | Trouble::NoMain
-        | Trouble::ManyFunctions
-        | Trouble::ManyStatements => Ok(None),
+        _ => Ok(None),
     }
 }

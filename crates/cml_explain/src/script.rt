@@ -47,27 +47,7 @@ fn whole_message(
 {
     match trouble {
         Trouble::Given => given_message(alloc, item_named(name, items), stand, name),
-        Trouble::Wanted(_) => message_of(alloc, trouble, name),
-        Trouble::Unknown(_) => message_of(alloc, trouble, name),
-        Trouble::Count(_, _) => message_of(alloc, trouble, name),
-        Trouble::Hollow
-        | Trouble::Reserved
-        | Trouble::Twice
-        | Trouble::Outside
-        | Trouble::Nested
-        | Trouble::Loose
-        | Trouble::Bare
-        | Trouble::Acts
-        | Trouble::ActsInSet
-        | Trouble::Commands
-        | Trouble::Unused
-        | Trouble::Undeclared
-        | Trouble::NoFunction
-        | Trouble::Again
-        | Trouble::MainTakes
-        | Trouble::NoMain
-        | Trouble::ManyFunctions
-        | Trouble::ManyStatements => message_of(alloc, trouble, name),
+        _ => message_of(alloc, trouble, name),
     }
 }
 

@@ -81,17 +81,7 @@ fn part_role(role: Role, layout: Layout, k: usize) -> Role
 {
     match role {
         Role::Parameters => Role::Parameter,
-        Role::Item
-        | Role::FunctionName
-        | Role::Parameter
-        | Role::Statement
-        | Role::Block
-        | Role::Variable
-        | Role::Source
-        | Role::SetValue
-        | Role::Value
-        | Role::Called
-        | Role::Keyword => role_at(layout, k),
+        _ => role_at(layout, k),
     }
 }
 

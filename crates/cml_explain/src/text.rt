@@ -56,23 +56,13 @@ fn text_said(
 {
     match kind {
         FaultKind::Unclosed => unclosed_said(alloc, text, at),
-        FaultKind::Stray => said_there(
-            alloc,
-            at,
-            b"this parenthesis closes nothing",
-            Vec::new(alloc),
-        ),
+        FaultKind::Stray => said_alone(alloc, at, b"this parenthesis closes nothing"),
         FaultKind::Character => character_said(alloc, text, at),
         FaultKind::Escape => escape_said(alloc, text, at),
         FaultKind::Number => number_said(alloc, text, at),
         FaultKind::Deep => deep_said(alloc, at),
         FaultKind::Long => long_said(alloc, text, at),
-        FaultKind::Utf8 => said_there(
-            alloc,
-            at,
-            b"the text is not UTF-8 from here on",
-            Vec::new(alloc),
-        ),
+        FaultKind::Utf8 => said_alone(alloc, at, b"the text is not UTF-8 from here on"),
     }
 }
 
@@ -246,6 +236,13 @@ fn said_there(
         IfOk result (λ said. plain_diagnosis said ≡ spec.said_there at message.now added) }
 {
     said(alloc, at, Some(at), message, notes)
+}
+
+// Said of one character, with nothing added.
+fn said_alone(alloc: Global, at: usize, message: &[u8]) -> Result<Diagnosis, AllocError>
+    ensures { IfOk result (λ said. plain_diagnosis said ≡ spec.said_there at message.now []) }
+{
+    said_there(alloc, at, message, Vec::new(alloc))
 }
 
 // Said of the bytes that stand there, a piece of the text.

@@ -60,9 +60,7 @@ fn item_by(sort: Sort, keyword: Keyword, given: usize) -> Trouble
 {
     match sort {
         Sort::Item => Trouble::Count(keyword, given),
-        Sort::Block | Sort::Statement | Sort::Effect | Sort::Value | Sort::Constant => {
-            Trouble::Outside
-        }
+        _ => Trouble::Outside,
     }
 }
 
@@ -84,11 +82,9 @@ fn source_by(sort: Sort, keyword: Keyword, given: usize) -> Trouble
     ensures { result ≡ spec.source_trouble sort keyword given }
 {
     match sort {
-        Sort::Item => Trouble::Nested,
-        Sort::Block => Trouble::Loose,
-        Sort::Constant => Trouble::Bare,
         Sort::Statement => Trouble::Commands,
-        Sort::Effect | Sort::Value => Trouble::Count(keyword, given),
+        Sort::Value => Trouble::Count(keyword, given),
+        _ => statement_by(sort, keyword, given),
     }
 }
 
@@ -98,9 +94,7 @@ fn set_by(sort: Sort, keyword: Keyword, given: usize) -> Trouble
 {
     match sort {
         Sort::Effect => Trouble::ActsInSet,
-        Sort::Item | Sort::Block | Sort::Statement | Sort::Value | Sort::Constant => {
-            source_by(sort, keyword, given)
-        }
+        _ => source_by(sort, keyword, given),
     }
 }
 
@@ -110,9 +104,7 @@ fn value_by(sort: Sort, keyword: Keyword, given: usize) -> Trouble
 {
     match sort {
         Sort::Effect => Trouble::Acts,
-        Sort::Item | Sort::Block | Sort::Statement | Sort::Value | Sort::Constant => {
-            source_by(sort, keyword, given)
-        }
+        _ => source_by(sort, keyword, given),
     }
 }
 
@@ -126,13 +118,7 @@ fn known_trouble(role: Role, sort: Sort, keyword: Keyword, given: usize) -> Trou
         Role::Source => source_by(sort, keyword, given),
         Role::SetValue => set_by(sort, keyword, given),
         Role::Value => value_by(sort, keyword, given),
-        Role::FunctionName
-        | Role::Parameters
-        | Role::Parameter
-        | Role::Block
-        | Role::Variable
-        | Role::Called
-        | Role::Keyword => Trouble::Wanted(role),
+        _ => Trouble::Wanted(role),
     }
 }
 
@@ -144,13 +130,7 @@ fn strange_trouble(role: Role) -> Trouble
         Role::Item | Role::Statement | Role::Source | Role::SetValue | Role::Value => {
             Trouble::Unknown(role)
         }
-        Role::FunctionName
-        | Role::Parameters
-        | Role::Parameter
-        | Role::Block
-        | Role::Variable
-        | Role::Called
-        | Role::Keyword => Trouble::Wanted(role),
+        _ => Trouble::Wanted(role),
     }
 }
 
@@ -160,15 +140,7 @@ fn empty_trouble(role: Role) -> Trouble
 {
     match role {
         Role::Source | Role::SetValue | Role::Value => Trouble::Hollow,
-        Role::Item
-        | Role::Statement
-        | Role::FunctionName
-        | Role::Parameters
-        | Role::Parameter
-        | Role::Block
-        | Role::Variable
-        | Role::Called
-        | Role::Keyword => Trouble::Wanted(role),
+        _ => Trouble::Wanted(role),
     }
 }
 
@@ -205,12 +177,7 @@ fn name_trouble(role: Role, head: Head) -> Trouble
             Trouble::Wanted(role)
         }
         Role::Parameter => parameter_trouble(head),
-        Role::FunctionName
-        | Role::Variable
-        | Role::Source
-        | Role::SetValue
-        | Role::Value
-        | Role::Called => Trouble::Reserved,
+        _ => Trouble::Reserved,
     }
 }
 
@@ -233,17 +200,7 @@ fn limit_trouble(role: Role) -> Trouble
 {
     match role {
         Role::Item => Trouble::ManyFunctions,
-        Role::FunctionName
-        | Role::Parameters
-        | Role::Parameter
-        | Role::Statement
-        | Role::Block
-        | Role::Variable
-        | Role::Source
-        | Role::SetValue
-        | Role::Value
-        | Role::Called
-        | Role::Keyword => Trouble::ManyStatements,
+        _ => Trouble::ManyStatements,
     }
 }
 
@@ -253,17 +210,7 @@ fn arity_trouble(role: Role) -> Trouble
 {
     match role {
         Role::FunctionName => Trouble::MainTakes,
-        Role::Item
-        | Role::Parameters
-        | Role::Parameter
-        | Role::Statement
-        | Role::Block
-        | Role::Variable
-        | Role::Source
-        | Role::SetValue
-        | Role::Value
-        | Role::Called
-        | Role::Keyword => Trouble::Given,
+        _ => Trouble::Given,
     }
 }
 

@@ -1,8 +1,8 @@
-use Rattle.std.proofs.Common.{◌≤◌, arith}
-use Rattle.cml_text.specs.Forms.{nesting, nesting_of, plain_forms}
+use Rattle.std.proofs.Common.{arith}
+use Rattle.cml_text.specs.Forms.{plain_forms}
 use Rattle.cml_explain.specs.Lets.{lets_among}
 use Rattle.cml_explain.specs.LetViews.{all_declared}
-use Rattle.cml_explain.proofs.StandLemmas.{member-below}
+use Rattle.cml_check.proofs.ExpressionLemmas.{member-below}
 use Rattle.cml_explain.proofs.LetLemmas.{lets_listed, lets_name, lets_int, lets_text, lets-next, lets-end}
 use Rattle.cml_explain.proofs.lets.+lets.Goals as goal
 
@@ -24,10 +24,8 @@ push_lets-returns-in_ok-push_lets_among-in-List t c =
 -- a form of the list lies lower than the list
 pub push_lets_among-push_lets-requires : goal.push_lets_among-push_lets-requires
 push_lets_among-push_lets-requires t c =
-    let below : nesting c.form-item.result ≤ nesting_of (plain_forms c.args.forms.now) =
-    member-below c.args.forms.now c.loop-form.form-index c.form-item.result c.loop-form-test.true c.form-item.is in
     let start = c.decreases in
-    (omega arith, tt)
+    (omega (arith, member-below c.args.forms.now c.loop-form.form-index c.form-item.result c.loop-form-test.true c.form-item.is), tt)
 
 pub push_lets_among-loop-form-preserved : goal.push_lets_among-loop-form-preserved
 push_lets_among-loop-form-preserved t c =

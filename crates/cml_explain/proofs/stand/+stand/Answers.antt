@@ -1,16 +1,14 @@
-use Rattle.std.proofs.Common.{◌≤◌, ◌∙◌, ap, arith}
-use Rattle.cml_text.specs.Forms.{nesting, nesting_of, plain_forms}
+use Rattle.std.proofs.Common.{◌∙◌, ap, arith}
 use Rattle.cml_explain.specs.Stands.{standing_in}
-use Rattle.cml_explain.proofs.StandLemmas.{member-below, stand-taken, stand-skipped, stand-end}
+use Rattle.cml_check.proofs.ExpressionLemmas.{member-below}
+use Rattle.cml_explain.proofs.StandLemmas.{stand-taken, stand-skipped, stand-end}
 use Rattle.cml_explain.proofs.stand.+stand.Goals as goal
 
 -- a form of the list lies lower than the list
 pub stand_among-stand_in-requires : goal.stand_among-stand_in-requires
 stand_among-stand_in-requires t c =
-    let below : nesting c.index-forms-k.result ≤ nesting_of (plain_forms c.args.forms.now) =
-    member-below c.args.forms.now c.loop-k.k c.index-forms-k.result c.loop-k-test.true c.index-forms-k.is in
     let start = c.decreases in
-    (omega arith, tt)
+    (omega (arith, member-below c.args.forms.now c.loop-k.k c.index-forms-k.result c.loop-k-test.true c.index-forms-k.is), tt)
 
 pub stand_among-returns-then-at-span : goal.stand_among-returns-then-at-span
 stand_among-returns-then-at-span t c =
