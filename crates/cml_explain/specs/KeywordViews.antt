@@ -10,7 +10,7 @@ abbrev pub texts : List (Bor (List ℕ)) → List (List ℕ)
 texts = map (λ text. text.now)
 
 -- these parts are needed, and so many are the most
-pub record AreParts (named : List (List ℕ)) (count : Option ℕ) (parts : Parts) : Type 0 where
+pub record AreNeeded (named : List (List ℕ)) (count : Option ℕ) (parts : Parts) : Type 0 where
   pub needs : texts parts.needs.now ≡ named
   pub most : parts.most ≡ count
 

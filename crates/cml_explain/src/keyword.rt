@@ -3,7 +3,7 @@
 ghost use Rattle.std.specs.{Prelude.{◌≡◌, [], find, length, map, None, Some}, Str.{bytes_eq}};
 ghost use Rattle.cml_explain.specs.Keywords.{keyword_entry, every_keyword, keyword_spelled};
 ghost use Rattle.cml_explain.specs.Keywords as spec;
-ghost use Rattle.cml_explain.specs.KeywordViews.{texts, AreParts, IsEntry};
+ghost use Rattle.cml_explain.specs.KeywordViews.{texts, AreNeeded, IsEntry};
 
 /// What a keyword begins.
 #[derive(Clone, Copy, PartialEq, Eq)]
@@ -196,7 +196,7 @@ struct Parts {
 // Just the parts that it needs.
 #[tactic(auto, using(crate::proofs::KeywordLemmas::just_many))]
 fn just(needs: &'static [&'static str]) -> Parts
-    ensures { AreParts (texts needs.now) (Some (length (texts needs.now))) result }
+    ensures { AreNeeded (texts needs.now) (Some (length (texts needs.now))) result }
 {
     Parts {
         needs,
@@ -206,14 +206,14 @@ fn just(needs: &'static [&'static str]) -> Parts
 
 // Any number of parts beside those that it needs.
 fn at_least(needs: &'static [&'static str]) -> Parts
-    ensures { AreParts (texts needs.now) None result }
+    ensures { AreNeeded (texts needs.now) None result }
 {
     Parts { needs, most: None }
 }
 
 // One part, which it can do without.
 fn one_or_none() -> Parts
-    ensures { AreParts [] (Some 1) result }
+    ensures { AreNeeded [] (Some 1) result }
 {
     Parts {
         needs: &[],
