@@ -1,18 +1,20 @@
 -- Steps of the search, one after another.
-use Rattle.std.proofs.Common.{◌≡◌, ℕ, ◌+◌, ◌-◌, ◌<◌, ◌≤◌, ◌⊎◌, inl, inr, Bool, true, false, List, length, refl, sym, ap, subst, ◌∙◌, Option, None, arith, eqb-true}
+use Rattle.std.proofs.Common.{◌≡◌, ℕ, ◌+◌, ◌-◌, ◌<◌, ◌≤◌, ◌⊎◌, inl, inr, Bool, true, false, List, length, refl, sym, ap, subst, ◌∙◌, arith, eqb-true}
 use Rattle.std.specs.Prelude.{◌==◌, ◌||◌, Some, Result, Ok, Err, IfOk, OnOk, slice_get, remove}
-use Rattle.cml_value.specs.declared.number.Tid.{Tid}
 use Rattle.cml_schedule.specs.declared.item.Item.{Item}
 use Rattle.cml_explore.specs.declared.detail.Detail.{Detail}
-use Rattle.cml_shrink.specs.Cuts.{acts_in, is_this_thread, without_rest}
+use Rattle.cml_shrink.specs.Cuts.{acts_in, without_rest}
 use Rattle.cml_shrink.specs.Ends.{EndsWith}
 use Rattle.cml_shrink.specs.Shrinking.{PlainShrunk, IsShrunk}
 use Rattle.cml_shrink.specs.declared.replay.Goal.{Goal}
-use Rattle.cml_shrink.specs.Searching.{PlainSearch, AlikeTo, UnlikeTo, UnlikeWithout, NeededBy, MinimalTo, Steps, SearchBegins, Goes, SearchSettles, SearchFinds}
+use Rattle.cml_shrink.specs.Searching.{PlainSearch, AlikeTo, UnlikeTo, NeededBy, MinimalTo, Steps, SearchBegins, Goes, SearchSettles, SearchFinds}
 
 -- nothing was tried
 pub no_step : (g : Goal) (A : Type 0) (s : PlainSearch) → A → Steps g A s false s
 no_step g A s a = (refl, omega arith, inr a)
+
+pub no_step_left : (g : Goal) (A : Type 0) (s : PlainSearch) → s.left ≡ 0 → Steps g A s false s
+no_step_left g A s e = (refl, omega arith, inl e)
 
 -- what holds otherwise may be told in other words
 pub step_as : (g : Goal) (A C : Type 0) (old new : PlainSearch) (came : Bool) → Steps g A old came new → (A → C) → Steps g C old came new
@@ -97,6 +99,10 @@ goes_nowhere g s alike = record { ends_alike = alike; no_longer = omega arith; t
 pub goes_on : (g : Goal) (old mid new : PlainSearch) → Goes g old mid → Goes g mid new → Goes g old new
 goes_on g old mid new s t = record { ends_alike = t.ends_alike; no_longer = omega (arith, s.no_longer, t.no_longer); tries = omega (arith, s.tries, t.tries) }
 
+pub goes_on_ok : {T E : Type 0} (r : Result T E) (g : Goal) (old mid new : PlainSearch) → Goes g old mid → OnOk r (Goes g mid new) → OnOk r (Goes g old new)
+goes_on_ok (Ok x) g old mid new s t = goes_on g old mid new s t
+goes_on_ok (Err e) g old mid new s t = tt
+
 pub step_came : (g : Goal) (A C : Type 0) (old new : PlainSearch) (came : Bool) → came ≡ true → Steps g A old came new → Steps g C old true new
 step_came g A C old new true e s = s
 step_came g A C old new false e s = cc
@@ -109,56 +115,33 @@ pub step_none : (g : Goal) (A : Type 0) (old new : PlainSearch) (came : Bool) �
 step_none g A old new true e s = cc
 step_none g A old new false e s = s
 
--- nothing was left out by the first step, but something was by the next
-pub then_came : (g : Goal) (A B C : Type 0) (old mid new : PlainSearch) (one other : Bool) → one ≡ false → Steps g A old one mid → other ≡ true → Steps g B mid other new → Steps g C old true new
-then_came g A B C old mid new one true no s so t =
-    step_came g (A × B) C old new true refl (then_step g A B (A × B) old mid new true (step_none g A old mid one no s) t (λ a b. (a, b)))
-then_came g A B C old mid new one false no s so t = cc
+pub then_none_ok : {E : Type 0} (r : Result Bool E) (g : Goal) (A B C : Type 0) (old mid new : PlainSearch) (came : Bool) → came ≡ false → Steps g A old came mid
+    → IfOk r (λ k. Steps g B mid k new) → (mid.items ≡ old.items → A → B → C) → IfOk r (λ k. Steps g C old k new)
+then_none_ok r g A B C old mid new came e s t f = let none = step_none g A old mid came e s in then_step_ok r g A B C old mid new none t (f none.0)
 
--- the items of one thread
+-- the items of one thread, and of two
 same_number : (a b : ℕ) → (a == b) ≡ true → a ≡ b
 same_number a b h = eqb-true a b h
 
 pub rest_of_one : (g : Goal) (items : List Item) (n u t : ℕ) → UnlikeTo g (without_rest items u n) → (u == t) ≡ true → UnlikeTo g (without_rest items t n)
 rest_of_one g items n u t h e = subst (λ (k : ℕ). UnlikeTo g (without_rest items k n)) (same_number u t e) h
 
-pub rest_of_that : {E : Type 0} (r : Result Bool E) (g : Goal) (n : ℕ) (u : Tid) (thread : Option Tid) (old new : PlainSearch) → thread ≡ Some u
-    → IfOk r (λ came. Steps g (UnlikeTo g (without_rest old.items u.0 n)) old came new) → IfOk r (λ came. Steps g (UnlikeWithout g old.items n thread) old came new)
-rest_of_that r g n u thread old new is s =
-    step_as_ok r g (UnlikeTo g (without_rest old.items u.0 n)) (UnlikeWithout g old.items n thread) old new s
-    (λ h t e. rest_of_one g old.items n u.0 t h (sym (ap (is_this_thread t) is) ∙ e))
-
-pub rest_of_none : (g : Goal) (n : ℕ) (thread : Option Tid) (s : PlainSearch) → thread ≡ None → Steps g (UnlikeWithout g s.items n thread) s false s
-rest_of_none g n thread s is = no_step g (UnlikeWithout g s.items n thread) s (λ t e. let no = sym (ap (is_this_thread t) is) ∙ e in cc)
-
--- what is needed at an item: neither the threads that take part in it, from it on, nor it alone can be left out
 one_of_two : (a b : Bool) → (a || b) ≡ true → (a ≡ true) ⊎ (b ≡ true)
 one_of_two true b e = inl refl
 one_of_two false b e = inr e
 
-needed_at : (g : Goal) (items : List Item) (n : ℕ) (here : Item) (one other : Option Tid) → slice_get items n ≡ Some here
-    → ((t : ℕ) → acts_in t here ≡ true → (is_this_thread t one || is_this_thread t other) ≡ true) → UnlikeWithout g items n one → UnlikeWithout g items n other → UnlikeTo g (remove items n) → NeededBy g items n
-needed_at g items n here one other is among x y alone = record {
-  alone = alone;
-  rest = λ t item at part.
-      let same : item ≡ here = cc in
-      elim (one_of_two (is_this_thread t one) (is_this_thread t other) (among t (subst (λ (z : Item). acts_in t z ≡ true) same part))) [ inl p ↦ x t p | inr q ↦ y t q ];
-}
+pub rest_of_two : (g : Goal) (items : List Item) (n h o t : ℕ) → UnlikeTo g (without_rest items h n) → UnlikeTo g (without_rest items o n) → ((h == t) || (o == t)) ≡ true
+    → UnlikeTo g (without_rest items t n)
+rest_of_two g items n h o t x y e =
+    elim (one_of_two (h == t) (o == t) e) [ inl p ↦ rest_of_one g items n h t x p | inr q ↦ rest_of_one g items n o t y q ]
 
-pub needed_after : {E : Type 0} (r : Result Bool E) (g : Goal) (n : ℕ) (here : Item) (first second : Option Tid) (old mid mid2 new : PlainSearch) (one other : Bool)
-    → slice_get old.items n ≡ Some here → ((t : ℕ) → acts_in t here ≡ true → (is_this_thread t first || is_this_thread t second) ≡ true)
-    → one ≡ false → Steps g (UnlikeWithout g old.items n first) old one mid → other ≡ false → Steps g (UnlikeWithout g mid.items n second) mid other mid2
-    → IfOk r (λ came. Steps g (UnlikeTo g (remove mid2.items n)) mid2 came new) → IfOk r (λ came. Steps g (NeededBy g old.items n) old came new)
-needed_after r g n here first second old mid mid2 new one other is among no s no2 t last =
-    let A = UnlikeWithout g old.items n first in
-    let B = UnlikeWithout g mid.items n second in
-    let none = step_none g A old mid one no s in
-    let none2 = step_none g B mid mid2 other no2 t in
-    let both : Steps g (A × B) old false mid2 = then_step g A B (A × B) old mid mid2 false none none2 (λ a b. (a, b)) in
-    then_step_ok r g (A × B) (UnlikeTo g (remove mid2.items n)) (NeededBy g old.items n) old mid2 new both last
-    (λ ab alone.
-    needed_at g old.items n here first second is among ab.0 (subst (λ (items : List Item). UnlikeWithout g items n second) none.0 ab.1)
-    (subst (λ (items : List Item). UnlikeTo g (remove items n)) both.0 alone))
+-- what is needed at an item
+pub needed_at : (g : Goal) (items : List Item) (n : ℕ) (here : Item) → slice_get items n ≡ Some here → ((t : ℕ) → acts_in t here ≡ true → UnlikeTo g (without_rest items t n))
+    → UnlikeTo g (remove items n) → NeededBy g items n
+needed_at g items n here is rest alone = record {
+  alone = alone;
+  rest = λ t item at part. rest t (let same : item ≡ here = cc in subst (λ (x : Item). acts_in t x ≡ true) same part);
+}
 
 -- nothing more can be left out
 pub settles : (g : Goal) (old mid new : PlainSearch) (came : Bool) → came ≡ false → Goes g old mid → Steps g (MinimalTo g mid.items) mid came new → SearchSettles g old new

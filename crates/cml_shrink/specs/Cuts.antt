@@ -1,6 +1,5 @@
 -- What may be left out of a schedule.
-use Rattle.std.specs.Prelude.{ℕ, ◌==◌, Bool, false, not, ◌||◌, List, Option, Some, None, ◌++◌, take, drop, filter}
-use Rattle.cml_value.specs.declared.number.Tid.{Tid}
+use Rattle.std.specs.Prelude.{ℕ, ◌==◌, Bool, false, not, ◌||◌, List, ◌++◌, take, drop, filter}
 use Rattle.cml_scan.specs.declared.meet.Meet.{Meet}
 use Rattle.cml_scan.specs.declared.meet.Meet.TheVariants.{Single, Pair}
 use Rattle.cml_schedule.specs.declared.item.Item.{Item}
@@ -21,10 +20,3 @@ acts_in t (Clock tick) = false
 -- the items without those in which the thread takes part, from the item of this number on; they are numbered from 0
 abbrev pub without_rest : List Item → ℕ → ℕ → List Item
 without_rest items t i = take i items ++ filter (λ item. not (acts_in t item)) (drop i items)
-
--- ---- what private functions say
-
--- it is that thread, if there is one
-abbrev pub is_this_thread : ℕ → Option Tid → Bool
-is_this_thread t None = false
-is_this_thread t (Some u) = u.0 == t

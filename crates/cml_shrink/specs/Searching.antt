@@ -1,9 +1,7 @@
 -- How the search for a shorter schedule goes on.
-use Rattle.std.specs.Prelude.{ℕ, ◌≡◌, ◌≤◌, ◌<◌, ◌⊎◌, Bool, true, false, List, length, Option}
+use Rattle.std.specs.Prelude.{ℕ, ◌≡◌, ◌≤◌, ◌<◌, ◌⊎◌, Bool, true, false, List, length}
 use Rattle.cml_schedule.specs.declared.item.Item.{Item}
-use Rattle.cml_value.specs.declared.number.Tid.{Tid}
 use Rattle.cml_shrink.specs.declared.replay.Goal.{Goal}
-use Rattle.cml_shrink.specs.Cuts.{is_this_thread, without_rest}
 use Rattle.cml_shrink.specs.Ends.{EndsAlike, IsUnlike}
 use Rattle.cml_shrink.specs.Shrinking.{IsNeeded, IsMinimal}
 
@@ -18,10 +16,6 @@ AlikeTo g items = EndsAlike g.program.now g.budget g.details.now items
 
 abbrev pub UnlikeTo : Goal → List Item → Type 0
 UnlikeTo g items = IsUnlike g.program.now g.budget g.details.now items
-
--- without the items of that thread, if there is one, from the item of this number on
-abbrev pub UnlikeWithout : Goal → List Item → ℕ → Option Tid → Type 0
-UnlikeWithout g items i thread = (t : ℕ) → is_this_thread t thread ≡ true → UnlikeTo g (without_rest items t i)
 
 abbrev pub NeededBy : Goal → List Item → ℕ → Type 0
 NeededBy g items i = IsNeeded g.program.now g.budget g.details.now items i

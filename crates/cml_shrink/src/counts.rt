@@ -1,9 +1,9 @@
 //! How long two schedules are, in words.
 
-ghost use Rattle.std.specs.Prelude.{◌≡◌, ◌++◌, OnOk, count_by};
+ghost use Rattle.std.specs.{Prelude.{◌≡◌, ◌++◌, OnOk, count_by}, Fmt.{decimal}};
+ghost use Rattle.cml_ending.specs.Lines.{many};
 ghost use Rattle.cml_shrink.specs.Counts as spec;
 
-use cml_ending::push_many;
 use cml_hub::Item;
 use std::alloc::{AllocError, Global};
 
@@ -30,14 +30,32 @@ fn commit_count(items: &[Item]) -> usize
     count
 }
 
+// Appends how many there are of a thing, where one is called so, and more are.
+fn push_many(
+    alloc: Global,
+    out: &mut Vec<u8>,
+    one: &str,
+    more: &str,
+    count: usize,
+) -> Result<(), AllocError>
+    ensures { OnOk result (out.new.items ≡ out.old.items ++ many one.now more.now count) }
+{
+    let digits = format!(in alloc; "{count}")?;
+    out.extend_from_slice(digits.as_bytes())?;
+    if count == 1 {
+        out.extend_from_slice(one.as_bytes())
+    } else {
+        out.extend_from_slice(more.as_bytes())
+    }
+}
+
 // Appends how many items there are, and how many of them take a row.
 fn push_size(alloc: Global, out: &mut Vec<u8>, items: &[Item]) -> Result<(), AllocError>
     ensures { OnOk result (out.new.items ≡ out.old.items ++ spec.size_words items.now) }
 {
-    push_many(alloc, out, " item", " items", items.len() as u64)?;
+    push_many(alloc, out, " item", " items", items.len())?;
     out.extend_from_slice(b", ")?;
-    let commits = commit_count(items) as u64;
-    push_many(alloc, out, " commit", " commits", commits)
+    push_many(alloc, out, " commit", " commits", commit_count(items))
 }
 
 /// Appends a line that says how many items and commits the first schedule has, and how many the second: `41 items, 9 commits -> 26 items, 5 commits`. A

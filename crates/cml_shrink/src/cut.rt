@@ -1,6 +1,6 @@
 //! Shorter lists of items.
 
-ghost use Rattle.std.specs.Prelude.{◌≡◌, ◌<◌, ◌≤◌, ◌++◌, ◌||◌, ℕ, true, IfOk, OnOk, filter, length, not, remove};
+ghost use Rattle.std.specs.Prelude.{◌≡◌, ◌<◌, ◌≤◌, ◌++◌, IfOk, OnOk, filter, length, not, remove};
 ghost use Rattle.cml_shrink.specs.Cuts as spec;
 
 use cml_hub::Item;
@@ -26,20 +26,6 @@ pub(crate) fn acts_in(thread: Tid, item: &Item) -> bool
         Item::Turn(turn) => turn.0 == thread.0,
         Item::Meet(row) | Item::Exchange(row) => is_in_row(thread, row),
         Item::Clock(_) => false,
-    }
-}
-
-/// The threads that take part in the item: there is none, one or two.
-pub(crate) fn parties(item: Item) -> (Option<Tid>, Option<Tid>)
-    ensures { (t : ℕ) → spec.acts_in t item ≡ true → (spec.is_this_thread t result.0 || spec.is_this_thread t result.1) ≡ true }
-{
-    match item {
-        Item::Turn(thread) => (Some(thread), None),
-        Item::Meet(row) | Item::Exchange(row) => match row {
-            Meet::Single { tid, .. } => (Some(tid), None),
-            Meet::Pair { head, other, .. } => (Some(head), Some(other)),
-        },
-        Item::Clock(_) => (None, None),
     }
 }
 

@@ -6,7 +6,6 @@ ghost use Rattle.cml_shrink.specs.Ends.{EndsWith, IsRefused, HubEndsWith, IsWhy,
 
 use crate::fault::ShrinkFault;
 use cml_check::Prog;
-use cml_ending::let_go;
 use cml_explore::{Detail, details_of};
 use cml_hub::{Hub, Item, ReplayFault};
 use std::alloc::{AllocError, Global};
@@ -20,6 +19,12 @@ pub(crate) struct Goal<'a> {
     pub(crate) budget: u64,
     /// How the given schedule ends.
     pub(crate) details: &'a [Detail],
+}
+
+// The hub is used no more.
+#[inline(never)]
+fn let_go(hub: Hub) {
+    drop(hub);
 }
 
 // The details of how the run of a hub ended, which is used no more.

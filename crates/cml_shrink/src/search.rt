@@ -1,13 +1,14 @@
 //! The search: what may be left out is tried, one after another.
 
-ghost use Rattle.std.specs.Prelude.{◌≡◌, ◌<◌, ◌≤◌, Some, IfOk, OnOk, ◌||◌, length, remove, slice_get};
+ghost use Rattle.std.specs.Prelude.{◌≡◌, ◌<◌, ◌≤◌, ℕ, true, Some, IfOk, OnOk, ◌==◌, ◌||◌, length, remove, slice_get};
 ghost use Rattle.cml_hub.specs.Kept.{IsBudget};
-ghost use Rattle.cml_shrink.specs.Cuts.{without_rest as without_rest_of};
-ghost use Rattle.cml_shrink.specs.Searching.{AlikeTo, UnlikeTo, UnlikeWithout, NeededBy, MinimalTo, Steps, SearchBegins, Goes, SearchSettles};
+ghost use Rattle.cml_shrink.specs.Cuts.{is_in_row, acts_in, without_rest as without_rest_of};
+ghost use Rattle.cml_shrink.specs.Searching.{AlikeTo, UnlikeTo, NeededBy, MinimalTo, Steps, SearchBegins, Goes, SearchSettles};
 
-use crate::cut::{parties, without_item, without_rest};
+use crate::cut::{without_item, without_rest};
 use crate::replay::{Goal, ends_alike};
 use cml_hub::Item;
+use cml_scan::Meet;
 use cml_value::Tid;
 use std::alloc::{AllocError, Global};
 use std::marker::Model;
@@ -139,37 +140,76 @@ impl Search {
         self.attempt(alloc, goal, shorter)
     }
 
-    // Tries to leave out the items of this thread, if there is one, from this number on.
-    fn cut_thread(
+    // Tries to leave out the items of one of these two threads from this number on.
+    fn cut_either(
         &mut self,
         alloc: Global,
         goal: &Goal<'_>,
         number: usize,
-        thread: Option<Tid>,
+        head: Tid,
+        other: Tid,
     ) -> Result<bool, AllocError>
         requires budget { IsBudget goal.now.budget }
         requires there { number < length self.old.items }
-        ensures { IfOk result (λ came. Steps goal.now (UnlikeWithout goal.now self.old.items number thread) self.old came self.new) }
+        ensures { IfOk result (λ came. Steps goal.now
+            ((t : ℕ) → ((head.0 == t) || (other.0 == t)) ≡ true → UnlikeTo goal.now (without_rest_of self.old.items t number)) self.old came self.new) }
     {
-        match thread {
-            Some(thread) => self.cut_rest(alloc, goal, number, thread),
-            None => Ok(false),
+        let came = self.cut_rest(alloc, goal, number, head)?;
+        if came {
+            return Ok(true);
+        }
+        self.cut_rest(alloc, goal, number, other)
+    }
+
+    // Tries to leave out the items of a party to this row from this number on.
+    fn cut_parties(
+        &mut self,
+        alloc: Global,
+        goal: &Goal<'_>,
+        number: usize,
+        row: Meet,
+    ) -> Result<bool, AllocError>
+        requires budget { IsBudget goal.now.budget }
+        requires there { number < length self.old.items }
+        ensures { IfOk result (λ came. Steps goal.now
+            ((t : ℕ) → is_in_row t row ≡ true → UnlikeTo goal.now (without_rest_of self.old.items t number)) self.old came self.new) }
+    {
+        match row {
+            Meet::Single { tid, .. } => self.cut_rest(alloc, goal, number, tid),
+            Meet::Pair { head, other, .. } => self.cut_either(alloc, goal, number, head, other),
         }
     }
 
-    // Tries what may be left out at the item of this number: from it on the items of a thread that takes part in it, or it alone.
+    // Tries to leave out the items of a thread that takes part in this item from this number on.
+    fn cut_threads(
+        &mut self,
+        alloc: Global,
+        goal: &Goal<'_>,
+        number: usize,
+        item: Item,
+    ) -> Result<bool, AllocError>
+        requires budget { IsBudget goal.now.budget }
+        requires there { number < length self.old.items }
+        ensures { IfOk result (λ came. Steps goal.now
+            ((t : ℕ) → acts_in t item ≡ true → UnlikeTo goal.now (without_rest_of self.old.items t number)) self.old came self.new) }
+    {
+        match item {
+            Item::Turn(thread) => self.cut_rest(alloc, goal, number, thread),
+            Item::Meet(row) => self.cut_parties(alloc, goal, number, row),
+            Item::Exchange(row) => self.cut_parties(alloc, goal, number, row),
+            Item::Clock(_) => Ok(false),
+        }
+    }
+
+    // Tries what may be left out at the item of this number: a thread's items from it on, or it alone.
     fn cut_at(&mut self, alloc: Global, goal: &Goal<'_>, number: usize) -> Result<bool, AllocError>
         requires budget { IsBudget goal.now.budget }
         requires there { number < length self.old.items }
         ensures { IfOk result (λ came. Steps goal.now (NeededBy goal.now self.old.items number) self.old came self.new) }
     {
-        let (first, second) = parties(self.item_at(number));
-        let came = self.cut_thread(alloc, goal, number, first)?;
+        let item = self.item_at(number);
+        let came = self.cut_threads(alloc, goal, number, item)?;
         if came {
-            return Ok(true);
-        }
-        let came_then = self.cut_thread(alloc, goal, number, second)?;
-        if came_then {
             return Ok(true);
         }
         self.cut_item(alloc, goal, number)
