@@ -2,7 +2,7 @@
 
 ghost use Rattle.cml_hub.specs.Kept.{NoneOut};
 
-use crate::making::{MEMORY, forms, program, says};
+use crate::making::{MEMORY, forms, program};
 use cml_hub::{Hub, Item, Plan, read_schedule};
 use cml_narrative::{Narrator, push_why};
 use cml_text::Sexpr;
@@ -352,6 +352,11 @@ fn tell_all(
         }
     }
     Story { told, why }
+}
+
+// What was said is this.
+fn says(rt: &impl Abort, said: &[u8], expected: &str) {
+    assert!(rt; said == expected.as_bytes(), "{expected}");
 }
 
 #[test]

@@ -45,205 +45,158 @@ const REFUSED: [(&str, &str); 7] = [
     ),
 ];
 
-// A trace in which a part stands so many times before what is inside, and another as many times behind it, and what is told of the trace.
-#[derive(Clone, Copy)]
-struct Repeated {
-    before: &'static str,
-    open: &'static str,
-    times: usize,
-    inside: &'static str,
-    close: &'static str,
-    told: &'static str,
-}
+// Parts of a trace, each with how often it stands there, and what is told of it.
+type Long = (&'static [(&'static str, u32)], &'static str);
 
-// One more than there can be of most things.
-const ONE_MORE: Repeated = Repeated {
-    before: "",
-    open: "",
-    times: 65_537,
-    inside: "",
-    close: "",
-    told: "",
-};
-
-// A value that is one level too deep, in the second line.
-const DEEP: Repeated = Repeated {
-    open: "(pair ",
-    times: 64,
-    inside: "1",
-    close: " 1)",
-    told: "line 2: the value is deeper than 64, or has more than 65536 nodes\n",
-    ..ONE_MORE
-};
-
-const FULL: [Repeated; 12] = [
-    // threads and channels
-    Repeated {
-        open: "spawn\n",
-        times: 4097,
-        told: "line 4097: there are 4096 threads, and there can't be more\n",
-        ..ONE_MORE
-    },
-    Repeated {
-        open: "chan\n",
-        told: "line 65537: there are 65536 channels, and there can't be more\n",
-        ..ONE_MORE
-    },
-    Repeated {
-        open: "swapchan\n",
-        told: "line 65537: there are 65536 swap channels, and there can't be more\n",
-        ..ONE_MORE
-    },
-    // variables and mailboxes
-    Repeated {
-        open: "ivar\n",
-        told: "line 65537: there are 65536 I-variables, and there can't be more\n",
-        ..ONE_MORE
-    },
-    Repeated {
-        open: "mvar\n",
-        told: "line 65537: there are 65536 M-variables, and there can't be more\n",
-        ..ONE_MORE
-    },
-    Repeated {
-        open: "mailbox\n",
-        told: "line 65537: there are 65536 mailboxes, and there can't be more\n",
-        ..ONE_MORE
-    },
-    // multicast channels and ports
-    Repeated {
-        open: "mchan\n",
-        told: "line 65537: there are 65536 multicast channels, and there can't be more\n",
-        ..ONE_MORE
-    },
-    Repeated {
-        before: "mchan\n",
-        open: "port 0\n",
-        told: "line 65538: there are 65536 ports, and there can't be more\n",
-        ..ONE_MORE
-    },
-    Repeated {
-        before: "mchan\n",
-        open: "port 0\n",
-        times: 65_536,
-        inside: "copy 0\n",
-        told: "line 65538: there are 65536 ports, and there can't be more\n",
-        ..ONE_MORE
-    },
-    // nacks, and what a queue holds
-    Repeated {
-        before: "spawn\n",
-        open: "nack 0\n",
-        told: "line 65538: there are 65536 nacks, and there can't be more\n",
-        ..ONE_MORE
-    },
-    Repeated {
-        before: "mailbox\n",
-        open: "mail 0 1\n",
-        told: "line 65538: mailbox 0 has as many items as it can hold\n",
-        ..ONE_MORE
-    },
-    Repeated {
-        before: "mchan\nport 0\n",
-        open: "multicast 0 1\n",
-        told: "line 65539: a port of multicast channel 0 has as many messages as it can hold\n",
-        ..ONE_MORE
-    },
+// one more than there can be: threads and channels
+const THREADS: [Long; 3] = [
+    (
+        &[("spawn\n", 4097)],
+        "line 4097: there are 4096 threads, and there can't be more\n",
+    ),
+    (
+        &[("chan\n", 65_537)],
+        "line 65537: there are 65536 channels, and there can't be more\n",
+    ),
+    (
+        &[("swapchan\n", 65_537)],
+        "line 65537: there are 65536 swap channels, and there can't be more\n",
+    ),
 ];
 
-const LARGE: [Repeated; 8] = [
-    Repeated {
-        before: "mvar ",
-        told: "line 1: the value is deeper than 64, or has more than 65536 nodes\n",
-        ..DEEP
-    },
-    Repeated {
-        before: "ivar\niput 0 ",
-        ..DEEP
-    },
-    Repeated {
-        before: "mvar\nmput 0 ",
-        ..DEEP
-    },
-    Repeated {
-        before: "mailbox\nmail 0 ",
-        ..DEEP
-    },
-    Repeated {
-        before: "mchan\nmulticast 0 ",
-        ..DEEP
-    },
-    Repeated {
-        before: "spawn\nsync 0 ",
-        open: "(choose ",
-        times: 64,
-        inside: "never",
-        close: ")",
-        told: "line 2: the group is deeper than 64, or has more than 65536 nodes\n",
-        ..ONE_MORE
-    },
-    Repeated {
-        before: "spawn\nsync 0 (choose",
-        open: " (always 1)",
-        times: 257,
-        inside: ")",
-        told: "line 2: the group has more than 256 events\n",
-        ..ONE_MORE
-    },
-    Repeated {
-        open: " ",
-        times: 1_048_577,
-        told: "a trace has at most 1048576 bytes; with --live there is no limit\n",
-        ..ONE_MORE
-    },
+// variables and mailboxes
+const VARIABLES: [Long; 3] = [
+    (
+        &[("ivar\n", 65_537)],
+        "line 65537: there are 65536 I-variables, and there can't be more\n",
+    ),
+    (
+        &[("mvar\n", 65_537)],
+        "line 65537: there are 65536 M-variables, and there can't be more\n",
+    ),
+    (
+        &[("mailbox\n", 65_537)],
+        "line 65537: there are 65536 mailboxes, and there can't be more\n",
+    ),
+];
+
+// multicast channels and ports
+const PORTS: [Long; 3] = [
+    (
+        &[("mchan\n", 65_537)],
+        "line 65537: there are 65536 multicast channels, and there can't be more\n",
+    ),
+    (
+        &[("mchan\n", 1), ("port 0\n", 65_537)],
+        "line 65538: there are 65536 ports, and there can't be more\n",
+    ),
+    (
+        &[("mchan\n", 1), ("port 0\n", 65_536), ("copy 0\n", 1)],
+        "line 65538: there are 65536 ports, and there can't be more\n",
+    ),
+];
+
+// nacks, and what a queue holds
+const QUEUES: [Long; 3] = [
+    (
+        &[("spawn\n", 1), ("nack 0\n", 65_537)],
+        "line 65538: there are 65536 nacks, and there can't be more\n",
+    ),
+    (
+        &[("mailbox\n", 1), ("mail 0 1\n", 65_537)],
+        "line 65538: mailbox 0 has as many items as it can hold\n",
+    ),
+    (
+        &[("mchan\nport 0\n", 1), ("multicast 0 1\n", 65_537)],
+        "line 65539: a port of multicast channel 0 has as many messages as it can hold\n",
+    ),
+];
+
+const LARGE: [Long; 8] = [
+    (
+        &[("mvar ", 1), ("(pair ", 64), ("1", 1), (" 1)", 64)],
+        "line 1: the value is deeper than 64, or has more than 65536 nodes\n",
+    ),
+    (
+        &[("ivar\niput 0 ", 1), ("(pair ", 64), ("1", 1), (" 1)", 64)],
+        "line 2: the value is deeper than 64, or has more than 65536 nodes\n",
+    ),
+    (
+        &[("mvar\nmput 0 ", 1), ("(pair ", 64), ("1", 1), (" 1)", 64)],
+        "line 2: the value is deeper than 64, or has more than 65536 nodes\n",
+    ),
+    (
+        &[
+            ("mailbox\nmail 0 ", 1),
+            ("(pair ", 64),
+            ("1", 1),
+            (" 1)", 64),
+        ],
+        "line 2: the value is deeper than 64, or has more than 65536 nodes\n",
+    ),
+    (
+        &[
+            ("mchan\nmulticast 0 ", 1),
+            ("(pair ", 64),
+            ("1", 1),
+            (" 1)", 64),
+        ],
+        "line 2: the value is deeper than 64, or has more than 65536 nodes\n",
+    ),
+    (
+        &[
+            ("spawn\nsync 0 ", 1),
+            ("(choose ", 64),
+            ("never", 1),
+            (")", 64),
+        ],
+        "line 2: the group is deeper than 64, or has more than 65536 nodes\n",
+    ),
+    (
+        &[("spawn\nsync 0 (choose", 1), (" (always 1)", 257), (")", 1)],
+        "line 2: the group has more than 256 events\n",
+    ),
+    (
+        &[(" ", 1_048_577)],
+        "a trace has at most 1048576 bytes; with --live there is no limit\n",
+    ),
 ];
 
 // Lines that have a fault as a text.
-const FAULTY: [(&str, &str); 7] = [
+const FAULTY: [Long; 9] = [
     (
-        "spawn\n(spawn",
+        &[("spawn\n(spawn", 1)],
         "line 2: a list or a text literal is not closed\n",
     ),
     (
-        "end 7\nmvar \"a",
+        &[("end 7\nmvar \"a", 1)],
         "line 1: there is no thread 7\nline 2: a list or a text literal is not closed\n",
     ),
-    ("spawn )\nend 7", "line 1: a `)` closes no list\n"),
+    (&[("spawn )\nend 7", 1)], "line 1: a `)` closes no list\n"),
     (
-        "\n; a comment\nend 1st",
+        &[("\n; a comment\nend 1st", 1)],
         "line 3: a word is neither a number nor a name\n",
     ),
     (
-        "mvar \"\\t\"",
+        &[("mvar \"\\t\"", 1)],
         "line 1: after a backslash stands none of `\"`, `\\` and `n`\n",
     ),
     (
-        "clock 9223372036854775808",
+        &[("clock 9223372036854775808", 1)],
         "line 1: a number is out of range\n",
     ),
     (
-        "mvar -1         mvar",
+        &[("(", 257), (")", 257)],
+        "line 1: a list stands inside 256 others\n",
+    ),
+    (
+        &[("mvar \"", 1), ("a", 4097), ("\"", 1)],
+        "line 1: the line or a text literal in it is too long\n",
+    ),
+    (
+        &[("mvar -1", 1), (" ", 9), ("mvar", 1)],
         "line 1: mvar takes a value, or nothing\n",
     ),
-];
-
-// The same of long ones.
-const FAULTY_AND_LONG: [Repeated; 2] = [
-    Repeated {
-        open: "(",
-        times: 257,
-        close: ")",
-        told: "line 1: a list stands inside 256 others\n",
-        ..ONE_MORE
-    },
-    Repeated {
-        before: "mvar \"",
-        open: "a",
-        times: 4097,
-        inside: "\"",
-        told: "line 1: the line or a text literal in it is too long\n",
-        ..ONE_MORE
-    },
 ];
 
 // Lines that begin with a command, and are none.
@@ -318,49 +271,65 @@ fn tells(rt: &(impl Abort + AllocGlobal), trace: &[u8], expected: &str) {
     drop(output);
 }
 
-// Puts the part so many times behind the trace.
-fn push_times(rt: &impl Abort, trace: &mut String, part: &str, times: usize) {
-    for _ in 0..times {
-        trace.push_str(part).expect(rt, MEMORY);
+// What is told of the trace that these parts are.
+fn tells_of_parts(rt: &(impl Abort + AllocGlobal), long: &Long) {
+    let mut trace = String::new(rt.alloc());
+    for (part, times) in long.0 {
+        for _ in 0..*times {
+            trace.push_str(part).expect(rt, MEMORY);
+        }
     }
-}
-
-// What is told of each of these traces.
-fn each_tells(rt: &(impl Abort + AllocGlobal), traces: &[Repeated]) {
-    for it in traces {
-        let mut trace = String::new(rt.alloc());
-        trace.push_str(it.before).expect(rt, MEMORY);
-        push_times(rt, &mut trace, it.open, it.times);
-        trace.push_str(it.inside).expect(rt, MEMORY);
-        push_times(rt, &mut trace, it.close, it.times);
-        tells(rt, trace.as_bytes(), it.told);
-    }
-}
-
-// What is told of each of these.
-fn each_short_tells(rt: &(impl Abort + AllocGlobal), traces: &[(&str, &str)]) {
-    for (trace, expected) in traces {
-        tells(rt, trace.as_bytes(), expected);
-    }
+    tells(rt, trace.as_bytes(), long.1);
 }
 
 #[test]
 fn tells_why_commands_were_refused(rt: HostRuntime) {
-    each_short_tells(&rt, &REFUSED);
+    for (trace, expected) in &REFUSED {
+        tells(&rt, trace.as_bytes(), expected);
+    }
+}
+
+// What is told of each of these traces.
+fn each_tells(rt: &(impl Abort + AllocGlobal), cases: &[Long]) {
+    for long in cases {
+        tells_of_parts(rt, long);
+    }
 }
 
 #[test]
-fn tells_of_what_is_full_or_too_large(rt: HostRuntime) {
-    each_tells(&rt, &FULL);
+fn tells_of_too_many_threads(rt: HostRuntime) {
+    each_tells(&rt, &THREADS);
+}
+
+#[test]
+fn tells_of_too_many_variables(rt: HostRuntime) {
+    each_tells(&rt, &VARIABLES);
+}
+
+#[test]
+fn tells_of_too_many_ports(rt: HostRuntime) {
+    each_tells(&rt, &PORTS);
+}
+
+#[test]
+fn tells_of_full_queues(rt: HostRuntime) {
+    each_tells(&rt, &QUEUES);
+}
+
+#[test]
+fn tells_of_what_is_too_large(rt: HostRuntime) {
     each_tells(&rt, &LARGE);
 }
 
 #[test]
 fn tells_why_a_line_is_bad(rt: HostRuntime) {
-    each_short_tells(&rt, &FAULTY);
-    each_tells(&rt, &FAULTY_AND_LONG);
-    each_short_tells(&rt, &MISUSED);
-    each_short_tells(&rt, &OTHERS);
+    each_tells(&rt, &FAULTY);
+    for (trace, expected) in &MISUSED {
+        tells(&rt, trace.as_bytes(), expected);
+    }
+    for (trace, expected) in &OTHERS {
+        tells(&rt, trace.as_bytes(), expected);
+    }
     tells(
         &rt,
         b"spawn\nmvar \"\xff\"",

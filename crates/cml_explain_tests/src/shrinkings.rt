@@ -2,7 +2,7 @@
 
 ghost use Rattle.cml_hub.specs.Kept.{IsBudget};
 
-use crate::making::{LOCKS, MEMORY, forms, in_range, program};
+use crate::making::{MEMORY, forms, in_range, program};
 use cml_hub::{Item, Plan, read_schedule};
 use cml_shrink::{ShrinkFault, push_counts, shrink};
 use std::process::Abort;
@@ -19,7 +19,11 @@ struct Case {
     said: &'static str,
 }
 
-// Two threads that lock, as in LOCKS, where the main thread prints for ever.
+// Each of two threads takes what the other wants: a deadlock where both have taken one.
+const LOCKS: &str =
+    "(fn lock (a b)\n  (let x (sync (mtake a)))\n  (yield)\n  (let y (sync (mtake b))))\n(fn main ()\n  (let a (mvar 0))\n  (let b (mvar 0))\n  (spawn lock a b)\n  (spawn lock b a))";
+
+// The same, where the main thread prints for ever.
 const PRINTS: &str =
     "(fn lock (a b)\n  (let x (sync (mtake a)))\n  (yield)\n  (let y (sync (mtake b))))\n(fn main ()\n  (let a (mvar 0))\n  (let b (mvar 0))\n  (spawn lock a b)\n  (spawn lock b a)\n  (while true (print 1)))";
 

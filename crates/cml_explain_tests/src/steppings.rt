@@ -3,7 +3,7 @@
 ghost use Rattle.cml_hub.specs.Kept.{NoneOut};
 ghost use Rattle.cml_stepper.specs.Hands.{FollowsTo};
 
-use crate::making::{MEMORY, forms, program, says};
+use crate::making::{MEMORY, forms, program};
 use cml_hub::Hub;
 use cml_stepper::Stepper;
 use std::process::Abort;
@@ -59,6 +59,11 @@ fn said_to(
         }
     }
     said
+}
+
+// What was said is this.
+fn says(rt: &impl Abort, said: &[u8], expected: &str) {
+    assert!(rt; said == expected.as_bytes(), "{expected}");
 }
 
 #[test]
