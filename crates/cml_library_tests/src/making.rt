@@ -66,6 +66,16 @@ pub fn program_of(rt: &(impl Abort + AllocGlobal), script: &str) -> Prog {
     program
 }
 
+/// The script that the word names, or that is spelled.
+pub fn script_of(text: &str) -> &str {
+    match text {
+        "ADDITION" => ADDITION,
+        "CANCELLED" => CANCELLED,
+        "SWAPPED" => SWAPPED,
+        _ => text,
+    }
+}
+
 /// The value that the text makes.
 pub fn value(rt: &(impl Abort + AllocGlobal), text: &str) -> Value {
     let mut made = make(rt, text);
