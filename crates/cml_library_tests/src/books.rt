@@ -1,6 +1,6 @@
 //! Books over both tables, in what only a caller of the library can ask, and the tables by themselves.
 
-use crate::lines::{halves, number, numbers};
+use crate::lines::{halves, number, numbers, say};
 use crate::making::{MEMORY, group};
 use crate::scans::light_of;
 use crate::traces::{answered, rows_of};
@@ -345,7 +345,7 @@ fn tell_rows<T: Table>(rt: &(impl Abort + AllocGlobal), table: &T, text: &mut St
     write!(text, "{}:", table.head_count()).expect(rt, MEMORY);
     let rows = rows_of(rt, table);
     for (i, row) in rows.iter().enumerate() {
-        text.push_str(if i > 0 { "," } else { "" }).expect(rt, MEMORY);
+        say(rt, text, if i > 0 { "," } else { "" });
         row.push_numbers(text).expect(rt, MEMORY);
     }
     drop(rows);
@@ -362,11 +362,7 @@ fn tell_row<T: Table>(rt: &impl Abort, book: &Book<T>, row: Meet, text: &mut Str
     write!(text, "{there}{swaps}").expect(rt, MEMORY);
 }
 
-fn tell_pending<T: Table>(
-    rt: &(impl Abort + AllocGlobal),
-    book: &Book<T>,
-    text: &mut String,
-) {
+fn tell_pending<T: Table>(rt: &(impl Abort + AllocGlobal), book: &Book<T>, text: &mut String) {
     write!(text, "{}:", book.pending_count()).expect(rt, MEMORY);
     let pending = book.pending(rt.alloc()).expect(rt, MEMORY);
     for thread in &pending {
@@ -396,10 +392,10 @@ fn tell_value<T: Table>(
     match book.value(light) {
         Some(value) => {
             let shown = value.show(rt.alloc()).expect(rt, MEMORY);
-            text.push_str(shown.as_str()).expect(rt, MEMORY);
+            say(rt, text, shown.as_str());
             drop(shown);
         }
-        None => text.push_str("none").expect(rt, MEMORY),
+        None => say(rt, text, "none"),
     }
 }
 

@@ -1,7 +1,9 @@
 //! Tables: a case on each line, with ` => ` between what is given and what is wanted.
 
 use crate::lines::halves;
-use crate::{checks, forcings, groups, hubs, machines, phrases, scans, schedules, stacks, texts, values};
+use crate::{
+    checks, forcings, groups, hubs, machines, phrases, scans, schedules, stacks, texts, values,
+};
 use std::process::Abort;
 
 /// What the lines of a table say.

@@ -1,7 +1,7 @@
 //! What the forms of a script are checked as.
 
 use crate::cases::{Cases, hold};
-use crate::lines::{halves, is_so, number, numbers};
+use crate::lines::{halves, is_so, number, numbers, say};
 use crate::making::{MEMORY, script_of};
 use cml_check::{CheckFault, Prog, check};
 use cml_text::read;
@@ -152,9 +152,9 @@ fn many(rt: &(impl Abort + AllocGlobal), parts: &str) -> String {
     let (times, after) = halves(rt, parts, "|");
     let mut script = String::from_str(rt.alloc(), before).expect(rt, MEMORY);
     for _ in 0..number(rt, times) {
-        script.push_str(part).expect(rt, MEMORY);
+        say(rt, &mut script, part);
     }
-    script.push_str(after).expect(rt, MEMORY);
+    say(rt, &mut script, after);
     script
 }
 
@@ -186,5 +186,10 @@ fn fault_of_functions(rt: &(impl Abort + AllocGlobal), count: u32) -> String {
 #[test]
 fn keeps_to_the_limit_of_functions(rt: HostRuntime) {
     is_so(&rt, fault_of_functions(&rt, 1023), "none", "1023");
-    is_so(&rt, fault_of_functions(&rt, 1024), "check 7 limit at 12201", "1024");
+    is_so(
+        &rt,
+        fault_of_functions(&rt, 1024),
+        "check 7 limit at 12201",
+        "1024",
+    );
 }

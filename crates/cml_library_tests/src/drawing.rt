@@ -1,5 +1,6 @@
 //! Random commands, of all kinds of objects, as lines of a trace.
 
+use crate::lines::say;
 use crate::making::MEMORY;
 use cml_scan::Meet;
 use cml_value::Tid;
@@ -8,7 +9,8 @@ use rand_pcg::Pcg32;
 use std::process::Abort;
 
 // Twenty base events. Those over which two threads meet come more often. A capital letter stands for a number that is drawn.
-const BASES: &str = "(always V)/(iget O)/(mtake O)/(mget O)/(mswap O V)/(mailrecv O)/(portrecv O)/(join T)/(at S)/(after O)/(nack N)/(send O V)/(send O V)/(send 0 V)/(recv 0)/(recv O)/(swap 0 V)/(swap 0 V)/(swap O V)/(swap O V)";
+const BASES: &str =
+    "(always V)/(iget O)/(mtake O)/(mget O)/(mswap O V)/(mailrecv O)/(portrecv O)/(join T)/(at S)/(after O)/(nack N)/(send O V)/(send O V)/(send 0 V)/(recv 0)/(recv O)/(swap 0 V)/(swap 0 V)/(swap O V)/(swap O V)";
 
 // Nine commands that make something.
 const MAKINGS: &str = "chan/swapchan/ivar/mvar/mvar ()/mailbox/mchan/port 0/spawn";
@@ -94,11 +96,11 @@ fn push_choice(
     seen: &Seen,
     text: &mut String,
 ) {
-    text.push_str("(choose").expect(rt, MEMORY);
+    say(rt, text, "(choose");
     for _ in 0..below_eight(random) {
         push_member(rt, random, seen, text);
     }
-    text.push_str(")").expect(rt, MEMORY);
+    say(rt, text, ")");
 }
 
 // Adds a command on an object.

@@ -1,7 +1,7 @@
 //! What forcings of events ask for, and what they end with.
 
 use crate::cases::{Cases, hold};
-use crate::lines::halves;
+use crate::lines::{halves, say};
 use crate::making::{MEMORY, Made, group, make, many};
 use cml_group::{ForceFault, Forced, Forcing, Next};
 use cml_value::{Event, FnRef, Group, GroupKind, NackId};
@@ -26,7 +26,7 @@ never | => | never
 
 fn push_call(rt: &impl Abort, text: &mut String, word: &str, function: &FnRef) {
     if !text.is_empty() {
-        text.push_str(" ").expect(rt, MEMORY);
+        say(rt, text, " ");
     }
     write!(
         text,

@@ -1,8 +1,8 @@
 //! What groups laid flat return.
 
-use crate::choosing::chosen;
 use crate::cases::{Cases, hold};
-use crate::lines::{halves, is_so, number};
+use crate::choosing::chosen;
+use crate::lines::{halves, is_so, number, say};
 use crate::making::{MEMORY, group, many};
 use cml_group::{Flat, FlatFault, flatten, has_few_leaves};
 use cml_value::{Base, BaseKind, FnRef, Group, GroupKind, NackId};
@@ -59,7 +59,7 @@ fn push_line(rt: &impl Abort, text: &mut String, base: &Base, wraps: &[FnRef], f
     for function in wraps {
         push_function(rt, text, function);
     }
-    text.push_str(" fires").expect(rt, MEMORY);
+    say(rt, text, " fires");
     push_nacks(rt, text, fired);
 }
 

@@ -3,7 +3,7 @@
 ghost use Rattle.cml_hub.specs.Kept.{IsBudget, IsWatch, NoneOut};
 
 use crate::cases::{Cases, hold};
-use crate::lines::{halves, is_so, number, numbers};
+use crate::lines::{halves, is_so, number, numbers, say};
 use crate::making::{ADDITION, MEMORY, program_of, script_of};
 use cml_hub::{
     End, First, GiveFault, Hub, Item, Next, Plan, ReplayFault, Script, matches_program,
@@ -332,7 +332,7 @@ fn planned(rt: &(impl Abort + AllocGlobal), text: &str) -> Plan {
 fn push_reports(rt: &(impl Abort + AllocGlobal), text: &mut String, hub: &Hub) {
     for report in hub.reports() {
         let lines = render(rt.alloc(), report).expect(rt, MEMORY);
-        text.push_str(lines.as_str()).expect(rt, MEMORY);
+        say(rt, text, lines.as_str());
         drop(lines);
     }
 }
@@ -349,10 +349,16 @@ fn end_word(end: End) -> &'static str {
 fn told(rt: &(impl Abort + AllocGlobal), hub: &Hub) -> String {
     let mut text = String::new(rt.alloc());
     let end = end_word(hub.end());
-    write!(text, "{end} pending {} used {}\n", hub.pending(), hub.used()).expect(rt, MEMORY);
-    text.push_str(hub.out()).expect(rt, MEMORY);
+    write!(
+        text,
+        "{end} pending {} used {}\n",
+        hub.pending(),
+        hub.used()
+    )
+    .expect(rt, MEMORY);
+    say(rt, &mut text, hub.out());
     let schedule = written(rt, hub);
-    text.push_str(schedule.as_str()).expect(rt, MEMORY);
+    say(rt, &mut text, schedule.as_str());
     drop(schedule);
     push_reports(rt, &mut text, hub);
     text
@@ -583,7 +589,8 @@ fn leads_to(rt: &(impl Abort + AllocGlobal), items: &[Item], end: End, output: &
 #[test]
 fn beginnings_of_a_schedule_are_replayed(rt: HostRuntime) {
     let plan = planned(&rt, ADDED);
-    assert!(rt; plan.items.len() == 8 && plan.budget == 1_000_000);
+    assert!(rt; plan.budget == 1_000_000);
+    assert!(rt; plan.items.len() == 8);
     for length in 0..7 {
         leads_to(&rt, &plan.items[..length], End::Partial, "");
     }
@@ -648,14 +655,9 @@ fn a_schedule_says_the_size_of_its_program(rt: HostRuntime) {
 }
 
 // Adds the number of the function with which the thread began, and its values.
-fn push_origin(
-    rt: &(impl Abort + AllocGlobal),
-    text: &mut String,
-    hub: &Hub,
-    thread: u32,
-) {
+fn push_origin(rt: &(impl Abort + AllocGlobal), text: &mut String, hub: &Hub, thread: u32) {
     match hub.origin(Tid(thread)) {
-        None => text.push_str("nobody").expect(rt, MEMORY),
+        None => say(rt, text, "nobody"),
         Some(origin) => {
             write!(text, "{}", origin.func()).expect(rt, MEMORY);
             for value in origin.args() {
@@ -665,7 +667,7 @@ fn push_origin(
             }
         }
     }
-    text.push_str(";").expect(rt, MEMORY);
+    say(rt, text, ";");
 }
 
 // The origins of threads 0 to 3.
@@ -680,12 +682,22 @@ fn origins_of(rt: &(impl Abort + AllocGlobal), hub: &Hub) -> String {
 #[test]
 fn a_hub_knows_origins_and_faults(rt: HostRuntime) {
     let mut hub = begun(&rt, FAMILY, 1_000_000, None);
-    is_so(&rt, origins_of(&rt, &hub), "1;nobody;nobody;nobody;", "before");
+    is_so(
+        &rt,
+        origins_of(&rt, &hub),
+        "1;nobody;nobody;nobody;",
+        "before",
+    );
     assert!(rt; hub.faults() == 0);
     assert!(rt; hub.machine(Tid(0)).is_some() && hub.machine(Tid(1)).is_none());
     let end = hub.run_alone(rt.alloc(), &mut First).expect(&rt, MEMORY);
     assert!(rt; end == End::Quiet);
-    is_so(&rt, origins_of(&rt, &hub), "1;0 1 2;0 () 4;nobody;", "after");
+    is_so(
+        &rt,
+        origins_of(&rt, &hub),
+        "1;0 1 2;0 () 4;nobody;",
+        "after",
+    );
     assert!(rt; hub.faults() == 1 && hub.out() == "3\nthread 2 fault kind\n");
     assert!(rt; hub.book().is_lit(Light::Joined(Tid(2))) && hub.book().waiting(Tid(0)).is_none());
     drop(hub);
@@ -711,7 +723,10 @@ fn is_followed(rt: &(impl Abort + AllocGlobal), script: &str) {
     let program = program_of(rt, script);
     let mut hub = Hub::begin(rt.alloc(), program, 1_000_000, Some(3)).expect(rt, MEMORY);
     follow_all(rt, &mut hub, whole.schedule());
-    assert!(rt; hub.end() == whole.end() && hub.out() == whole.out(), "{script}");
+    assert!(rt;
+        hub.end() == whole.end() && hub.out() == whole.out(),
+        "{script}"
+    );
     assert!(rt; hub.used() == whole.used() && hub.faults() == whole.faults());
     let after = hub.follow(rt.alloc(), Item::Clock(1));
     assert!(rt; !after.expect(rt, MEMORY), "{script}");

@@ -2,7 +2,7 @@
 
 ghost use Rattle.std.specs.Prelude.{◌≡◌, ◌<◌, [], length, All, IsTrue};
 
-use crate::lines::{halves, number};
+use crate::lines::{halves, number, say};
 use crate::making::{MEMORY, value};
 use cml_base::{FeedFault, Paired, Register, Source};
 use cml_channel::{ChannelSide, Channels, SwapChannels, SwapSide};
@@ -102,11 +102,11 @@ where
     ensures { length register.new.objects ≡ length register.old.objects }
 {
     let Some(object) = register.get(id) else {
-        text.push_str("nothing").expect(rt, MEMORY);
+        say(rt, text, "nothing");
         return;
     };
     if !object.lit() {
-        text.push_str("nothing").expect(rt, MEMORY);
+        say(rt, text, "nothing");
         return;
     }
     let stays = if object.stays_lit_after(&want) {
@@ -150,12 +150,8 @@ where
     fed(register.feed(id, feed))
 }
 
-fn say_lit<K: Source>(
-    rt: &(impl Abort + AllocGlobal),
-    text: &mut String,
-    register: &Register<K>,
-) {
-    text.push_str("lit").expect(rt, MEMORY);
+fn say_lit<K: Source>(rt: &(impl Abort + AllocGlobal), text: &mut String, register: &Register<K>) {
+    say(rt, text, "lit");
     let leaves = register.lit_waiters(rt.alloc()).expect(rt, MEMORY);
     for (thread, leaf) in &leaves {
         write!(text, " {}.{leaf}", thread.0).expect(rt, MEMORY);
@@ -181,7 +177,7 @@ where
         "leave" => register.leave(step.id, Tid(step.n), step.leaf),
         "feed" => {
             let word = feed(rt, register, step.id, Numbered::numbered(step.n));
-            text.push_str(word).expect(rt, MEMORY);
+            say(rt, text, word);
         }
         "ask" => ask(rt, text, register, step.id, Numbered::numbered(step.n)),
         "lit" => say_lit(rt, text, register),
@@ -189,18 +185,18 @@ where
     }
 }
 
-// A register of one object or two.
-fn made<K: Source>(
-    rt: &(impl Abort + AllocGlobal),
-    first: K,
-    second: Option<K>,
-) -> Register<K> {
-    let mut register = Register::new(rt.alloc());
+fn add<K: Source>(rt: &impl Abort, register: &mut Register<K>, object: K) {
     register.room(None).expect(rt, MEMORY);
-    assert!(rt; register.make(first).is_ok(), "made");
+    assert!(rt; register.len() < 100);
+    assert!(rt; register.make(object).is_ok());
+}
+
+// A register of one object or two.
+fn made<K: Source>(rt: &(impl Abort + AllocGlobal), first: K, second: Option<K>) -> Register<K> {
+    let mut register = Register::new(rt.alloc());
+    add(rt, &mut register, first);
     if let Some(second) = second {
-        register.room(None).expect(rt, MEMORY);
-        assert!(rt; register.make(second).is_ok(), "made");
+        add(rt, &mut register, second);
     }
     register
 }
@@ -354,18 +350,20 @@ fn a_mailbox_has_a_limit(rt: HostRuntime) {
 }
 
 // Two ports of one channel.
-fn add_ports(
-    rt: &(impl Abort + AllocGlobal),
-    ports: &mut Register<Port>,
-    channel: &mut Multicast,
-)
+fn add_ports(rt: &(impl Abort + AllocGlobal), ports: &mut Register<Port>, channel: &mut Multicast)
     requires objects { ports.old.objects ≡ [] }
     requires ports { channel.old.ports ≡ [] }
     ensures some { 0 < length ports.new.objects }
     ensures there { All (λ port. port.0 < length ports.new.objects) channel.new.ports }
 {
-    let first = ports.make(Port::new(rt.alloc())).ok().expect(rt, MEMORY);
-    let second = ports.make(Port::new(rt.alloc())).ok().expect(rt, MEMORY);
+    let first = match ports.make(Port::new(rt.alloc())) {
+        Ok(first) => first,
+        Err(_) => rt.panic(MEMORY),
+    };
+    let second = match ports.make(Port::new(rt.alloc())) {
+        Ok(second) => second,
+        Err(_) => rt.panic(MEMORY),
+    };
     channel.room().expect(rt, MEMORY);
     channel.add(PortId(first)).expect(rt, MEMORY);
     channel.add(PortId(second)).expect(rt, MEMORY);
@@ -406,23 +404,20 @@ fn posts(
     requires some { 0 < length ports.old.objects }
     requires there { All (λ port. port.0 < length ports.old.objects) channel.now.ports }
 {
-    text.push_str(post_word(rt.alloc(), channel, ports, 7))
-        .expect(rt, MEMORY);
+    say(rt, text, post_word(rt.alloc(), channel, ports, 7));
     ask(rt, text, ports, 0, ());
     let filled = if fill_first(ports) {
         " filled "
     } else {
         " refused "
     };
-    text.push_str(filled).expect(rt, MEMORY);
-    text.push_str(post_word(rt.alloc(), channel, ports, 8))
-        .expect(rt, MEMORY);
+    say(rt, text, filled);
+    say(rt, text, post_word(rt.alloc(), channel, ports, 8));
     ask(rt, text, ports, 1, ());
-    text.push_str(" ").expect(rt, MEMORY);
+    say(rt, text, " ");
     ask(rt, text, ports, 0, ());
-    text.push_str(" ").expect(rt, MEMORY);
-    text.push_str(post_word(rt.alloc(), channel, ports, 9))
-        .expect(rt, MEMORY);
+    say(rt, text, " ");
+    say(rt, text, post_word(rt.alloc(), channel, ports, 9));
     ask(rt, text, ports, 1, ());
 }
 
@@ -481,6 +476,7 @@ fn a_copied_port_goes_its_own_way(rt: HostRuntime) {
 
 // A leaf waits for a tick, or no longer waits for it, or the clock moves; and all that is said, the next alarm after each of them.
 const TICKS: &str = "wait 9/wait 4/wait 9/wait 5/to 5/leave 9/wait 2/leave 9/to 8";
+
 const TICKED: &str = " 9 4 4 4 lit 4 5 9 9 9 none lit none";
 
 fn move_clock(rt: &(impl Abort + AllocGlobal), text: &mut String, clock: &mut Clock, to: u64) {
@@ -488,7 +484,7 @@ fn move_clock(rt: &(impl Abort + AllocGlobal), text: &mut String, clock: &mut Cl
         return;
     }
     let lit = clock.ticks_until(rt.alloc(), to).expect(rt, MEMORY);
-    text.push_str(" lit").expect(rt, MEMORY);
+    say(rt, text, " lit");
     for tick in &lit {
         write!(text, " {tick}").expect(rt, MEMORY);
     }
@@ -591,11 +587,23 @@ fn two_sides_meet(rt: HostRuntime) {
     has_key::<Channels>(&rt, sends(0), 0, true);
     has_key::<Channels>(&rt, receives(1), 1, false);
     has_key::<Channels>(&rt, sends(2), 2, true);
-    gives(&rt, handed::<Channels>(sends(0), receives(0)), Some(("()", "7")));
-    gives(&rt, handed::<Channels>(receives(1), sends(1)), Some(("7", "()")));
+    gives(
+        &rt,
+        handed::<Channels>(sends(0), receives(0)),
+        Some(("()", "7")),
+    );
+    gives(
+        &rt,
+        handed::<Channels>(receives(1), sends(1)),
+        Some(("7", "()")),
+    );
     gives(&rt, handed::<Channels>(sends(0), receives(1)), None);
     gives(&rt, handed::<Channels>(sends(2), sends(2)), None);
-    stands::<Channels>(&rt, Base::new(BaseKind::Send(ChanId(4), int(7))), Some((4, true)));
+    stands::<Channels>(
+        &rt,
+        Base::new(BaseKind::Send(ChanId(4), int(7))),
+        Some((4, true)),
+    );
     stands::<Channels>(&rt, Base::new(BaseKind::Recv(ChanId(5))), Some((5, false)));
     stands::<Channels>(&rt, Base::new(BaseKind::IGet(IVarId(4))), None);
     stands::<Channels>(&rt, Base::new(BaseKind::Swap(SwapId(4), int(7))), None);
@@ -613,9 +621,21 @@ fn swap(channel: u32, n: u32) -> SwapSide {
 fn two_swaps_meet(rt: HostRuntime) {
     has_key::<SwapChannels>(&rt, swap(0, 1), 0, true);
     has_key::<SwapChannels>(&rt, swap(4, 1), 4, true);
-    gives(&rt, handed::<SwapChannels>(swap(0, 1), swap(0, 2)), Some(("2", "1")));
-    gives(&rt, handed::<SwapChannels>(swap(4, 1), swap(4, 2)), Some(("2", "1")));
+    gives(
+        &rt,
+        handed::<SwapChannels>(swap(0, 1), swap(0, 2)),
+        Some(("2", "1")),
+    );
+    gives(
+        &rt,
+        handed::<SwapChannels>(swap(4, 1), swap(4, 2)),
+        Some(("2", "1")),
+    );
     gives(&rt, handed::<SwapChannels>(swap(0, 1), swap(1, 2)), None);
-    stands::<SwapChannels>(&rt, Base::new(BaseKind::Swap(SwapId(4), int(7))), Some((4, true)));
+    stands::<SwapChannels>(
+        &rt,
+        Base::new(BaseKind::Swap(SwapId(4), int(7))),
+        Some((4, true)),
+    );
     stands::<SwapChannels>(&rt, Base::new(BaseKind::Send(ChanId(4), int(7))), None);
 }

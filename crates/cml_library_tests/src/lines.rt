@@ -22,6 +22,11 @@ pub fn numbers(rt: &(impl Abort + AllocGlobal), words: &str) -> Vec<u32> {
     all
 }
 
+/// Adds the words to the text.
+pub fn say(rt: &impl Abort, text: &mut String, words: &str) {
+    text.push_str(words).expect(rt, MEMORY);
+}
+
 /// The text with a line feed for each `/`.
 pub fn unfolded(rt: &(impl Abort + AllocGlobal), text: &str) -> String {
     text.replace(rt.alloc(), "/", "\n").expect(rt, MEMORY)

@@ -9,6 +9,7 @@ ghost use Rattle.cml_step.specs.{AnswerViews.{plain_answer}, AskViews.{plain_ask
 ghost use Rattle.cml_step.specs.Answers as answers;
 
 use crate::cases::{Cases, hold};
+use crate::lines::say;
 use crate::making::{MEMORY, make, program_of, script_of};
 use cml_check::Prog;
 use cml_step::{Answer, Ask, Machine, Undo, run_slice, slice};
@@ -429,7 +430,7 @@ fn course_of(rt: &(impl Abort + AllocGlobal), script: &str) -> Course {
     let main = FnRef::new(rt.alloc(), program.main(), Vec::new(rt.alloc())).expect(rt, MEMORY);
     let spawned = watch(rt, &program, Tid(0), main, &mut course);
     if let Some(function) = spawned {
-        course.text.push_str(" then ").expect(rt, MEMORY);
+        say(rt, &mut course.text, " then ");
         let more = watch(rt, &program, Tid(1), function, &mut course);
         drop(more);
     }

@@ -1,7 +1,7 @@
 //! The rows, lights, leaves and offers of worlds.
 
 use crate::cases::{Cases, hold};
-use crate::lines::{halves, number};
+use crate::lines::{halves, number, say};
 use crate::making::{MEMORY, group};
 use cml_scan::{
     Light, Lights, Meet, NackState, Offer, Place, ThreadState, World, leaf_bases, light, offers,
@@ -94,7 +94,7 @@ fn push_row(rt: &impl Abort, text: &mut String, row: &Meet) {
     {
         write!(text, "-{}.{other_leaf}", other.0).expect(rt, MEMORY);
     }
-    text.push_str(" ").expect(rt, MEMORY);
+    say(rt, text, " ");
 }
 
 fn rows_are(rt: &(impl Abort + AllocGlobal), found: &[Meet], wanted: &str) {

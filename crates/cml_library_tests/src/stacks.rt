@@ -1,7 +1,7 @@
 //! What stands on a thread's stack, and where a fault is.
 
 use crate::cases::{Cases, hold};
-use crate::lines::{halves, is_so, number};
+use crate::lines::{halves, is_so, number, say};
 use crate::machines::{go_on, slice_of};
 use crate::making::{MEMORY, program_of};
 use cml_check::Prog;
@@ -31,11 +31,11 @@ const STACKS: &str = "
 // Adds what stands there.
 fn tell(rt: &impl Abort, alloc: Global, program: &Prog, seen: Seen<'_>, text: &mut String) {
     if !text.is_empty() {
-        text.push_str(", ").expect(rt, MEMORY);
+        say(rt, text, ", ");
     }
     match seen {
-        Seen::Force(_, _) => text.push_str("force").expect(rt, MEMORY),
-        Seen::Wraps(_) => text.push_str("wraps").expect(rt, MEMORY),
+        Seen::Force(_, _) => say(rt, text, "force"),
+        Seen::Wraps(_) => say(rt, text, "wraps"),
         Seen::Call(call) => {
             let place = call.place(program).expect(rt, "a place");
             write!(text, "{} at {} on {}", call.function(), place, call.at()).expect(rt, MEMORY);

@@ -14,6 +14,7 @@ pub fn answered<T: Table>(
     lines: &str,
 ) -> String {
     let mut begun = Begun::new(rt.alloc());
+    assert!(rt; begun.number() == 1);
     let mut answer = Vec::new(rt.alloc());
     let turn = take_turn(
         rt.alloc(),
