@@ -1,7 +1,7 @@
 //! The commands of the program and their arguments, as clap is told of them.
 
 ghost use Rattle.std.specs.Prelude.{◌≡◌, ◌<◌, ◌-◌, [], ◌∷◌, codes, false, true, IfOk};
-ghost use Rattle.clap.specs.Words.{app_of};
+ghost use Rattle.clap.specs.Words.{app_of, with_subcommand, Shape};
 ghost use Rattle.cml_arguments.specs.Words.{any_rule, command_of, commands, count_rule, depth_rule, explains, explore_command, file_command, file_rule, flag_rule, list_rule, option_rule, part_command, replay_command, run_command, runs_rule, shrink_command, step_command, trace_command, with_end, with_explain, with_finding, with_order, with_others, workers_rule, FollowsRule, IsShapedAs, IsReshaped};
 
 use clap::{Arg, ArgAction, Command, value_parser};
@@ -26,21 +26,18 @@ const MOST_RUNS: i64 = 1_000_000;
 pub fn command<'a>(alloc: Global) -> Result<Command<'a>, AllocError>
     ensures { IfOk result (λ command. app_of command ≡ commands) }
 {
-    let trace = trace(alloc)?;
-    let check = file_alone(alloc, "check", "Checks a script")?;
-    let fmt = file_alone(alloc, "fmt", "Prints the forms of a text, each on a line")?;
-    let run = run(alloc)?;
-    let replay = replay(alloc)?;
-    let explain = explain_run(alloc)?;
     let program = Command::new(alloc, "cml")
         .about("Events of Concurrent ML: answers traces of commands, and checks and runs scripts")
-        .subcommand_required(true)
-        .subcommand(trace)?
-        .subcommand(check)?
-        .subcommand(fmt)?
-        .subcommand(run)?
-        .subcommand(replay)?
-        .subcommand(explain)?;
+        .subcommand_required(true);
+    let program = with_command(program, trace(alloc))?;
+    let program = with_command(program, file_alone(alloc, "check", "Checks a script"))?;
+    let program = with_command(
+        program,
+        file_alone(alloc, "fmt", "Prints the forms of a text, each on a line"),
+    )?;
+    let program = with_command(program, run(alloc))?;
+    let program = with_command(program, replay(alloc))?;
+    let program = with_command(program, explain_run(alloc))?;
     others(alloc, program)
 }
 
@@ -48,25 +45,29 @@ pub fn command<'a>(alloc: Global) -> Result<Command<'a>, AllocError>
 fn others<'a>(alloc: Global, program: Command<'a>) -> Result<Command<'a>, AllocError>
     ensures { IfOk result (λ command. app_of command ≡ with_others (app_of program.entry)) }
 {
-    let explore = explore(alloc)?;
-    let shrink = shrink(alloc)?;
-    let draw = draw(alloc)?;
-    let step = step(alloc)?;
-    program
-        .subcommand(explore)?
-        .subcommand(shrink)?
-        .subcommand(draw)?
-        .subcommand(step)
+    let program = with_command(program, explore(alloc))?;
+    let program = with_command(program, shrink(alloc))?;
+    let program = with_command(program, draw(alloc))?;
+    with_command(program, step(alloc))
+}
+
+// The program, with one command more, where there was memory to make it.
+fn with_command<'a>(
+    program: Command<'a>,
+    command: Result<Command<'a>, AllocError>,
+) -> Result<Command<'a>, AllocError>
+    ensures { IfOk result (λ new. (shape : Shape) → IfOk command.entry (IsShapedAs shape) → app_of new ≡ with_subcommand (app_of program.entry) shape) }
+{
+    program.subcommand(command?)
 }
 
 // The command that answers a trace.
 fn trace<'a>(alloc: Global) -> Result<Command<'a>, AllocError>
     ensures { IfOk result (IsShapedAs trace_command) }
 {
-    let live = flag_of(alloc, "live").help("Answers each line as soon as it has been read");
     let command = Command::new(alloc, "trace")
         .about("Answers the commands on standard input")
-        .arg(live)?;
+        .arg(flag_of(alloc, "live").help("Answers each line as soon as it has been read"))?;
     explaining(alloc, command)
 }
 
@@ -74,14 +75,15 @@ fn trace<'a>(alloc: Global) -> Result<Command<'a>, AllocError>
 fn run<'a>(alloc: Global) -> Result<Command<'a>, AllocError>
     ensures { IfOk result (IsShapedAs run_command) }
 {
-    let workers = workers(alloc).help("How many workers run its threads, 1 to 64 [default: 1]");
-    let steps = count(alloc, "steps", "B").help(
-        "How many steps it may take, 1 to 1000000000 [default: 1000000]",
-    );
-    let seed = seed(alloc).help("Draws the choices from this number");
-    let draw = option(alloc, "draw", "FILE").help("Saves a picture of the run");
-    let own = vec![in alloc; workers, steps, seed, watch(alloc), record(alloc), draw]?;
-    let command = on_file(alloc, "run", "Runs a script")?.args(own)?;
+    let command = on_file(alloc, "run", "Runs a script")?
+        .arg(workers(alloc).help("How many workers run its threads, 1 to 64 [default: 1]"))?
+        .arg(count(alloc, "steps", "B").help(
+            "How many steps it may take, 1 to 1000000000 [default: 1000000]",
+        ))?
+        .arg(seed(alloc).help("Draws the choices from this number"))?
+        .arg(watch(alloc))?
+        .arg(record(alloc))?
+        .arg(option(alloc, "draw", "FILE").help("Saves a picture of the run"))?;
     let ended = ending(alloc, command)?;
     explaining(alloc, ended)
 }
@@ -90,13 +92,10 @@ fn run<'a>(alloc: Global) -> Result<Command<'a>, AllocError>
 fn replay<'a>(alloc: Global) -> Result<Command<'a>, AllocError>
     ensures { IfOk result (IsShapedAs replay_command) }
 {
-    let own = vec![in alloc; file(alloc, "SCHEDULE"), watch(alloc)]?;
-    let command = on_file(
-        alloc,
-        "replay",
-        "Runs a script by a schedule that was saved",
-    )?
-    .args(own)?;
+    let about = "Runs a script by a schedule that was saved";
+    let command = on_file(alloc, "replay", about)?
+        .arg(file(alloc, "SCHEDULE"))?
+        .arg(watch(alloc))?;
     let ended = ending(alloc, command)?;
     explaining(alloc, ended)
 }
@@ -137,31 +136,26 @@ fn part_of_run<'a>(
 ) -> Result<Command<'a>, AllocError>
     ensures { IfOk result (IsShapedAs (part_command name.now)) }
 {
-    let from = count(alloc, "from", "I").help(first);
-    let to = count(alloc, "to", "J").help(last);
-    let own = vec![in alloc; file(alloc, "SCHEDULE"), from, to]?;
-    on_file(alloc, name, about)?.args(own)
+    on_file(alloc, name, about)?
+        .arg(file(alloc, "SCHEDULE"))?
+        .arg(count(alloc, "from", "I").help(first))?
+        .arg(count(alloc, "to", "J").help(last))
 }
 
 // The command that runs a script many times.
 fn explore<'a>(alloc: Global) -> Result<Command<'a>, AllocError>
     ensures { IfOk result (IsShapedAs explore_command) }
 {
-    let runs = runs(alloc).help("How many runs, 1 to 1000000 [default: 100]");
-    let seed = seed(alloc).help(
-        "The seed of the first run; each further one has the next [default: 0]",
-    );
-    let steps = count(alloc, "steps", "B").help(
-        "How many steps each may take, 1 to 1000000000 [default: 1000000]",
-    );
-    let workers = workers(alloc).help("How many workers make the runs, 1 to 64 [default: 1]");
-    let own = vec![in alloc; runs, seed, steps, workers]?;
-    let counted = on_file(
-        alloc,
-        "explore",
-        "Runs a script many times, and says how the runs end",
-    )?
-    .args(own)?;
+    let about = "Runs a script many times, and says how the runs end";
+    let counted = on_file(alloc, "explore", about)?
+        .arg(runs(alloc).help("How many runs, 1 to 1000000 [default: 100]"))?
+        .arg(seed(alloc).help(
+            "The seed of the first run; each further one has the next [default: 0]",
+        ))?
+        .arg(count(alloc, "steps", "B").help(
+            "How many steps each may take, 1 to 1000000000 [default: 1000000]",
+        ))?
+        .arg(workers(alloc).help("How many workers make the runs, 1 to 64 [default: 1]"))?;
     let ordered = ordering(alloc, counted)?;
     finding(alloc, ordered)
 }
@@ -170,40 +164,37 @@ fn explore<'a>(alloc: Global) -> Result<Command<'a>, AllocError>
 fn ordering<'a>(alloc: Global, command: Command<'a>) -> Result<Command<'a>, AllocError>
     ensures { IfOk result (IsReshaped with_order command.entry) }
 {
-    let turns = flag_of(alloc, "turns").help("Draws the order of the threads' turns too");
-    let priority = priority(alloc).help(
-        "Gives the turns by priorities, which are drawn and change at D - 1 points, 1 to 64",
-    );
-    command.args(vec![in alloc; turns, priority]?)
+    command
+        .arg(flag_of(alloc, "turns").help("Draws the order of the threads' turns too"))?
+        .arg(priority(alloc).help(
+            "Gives the turns by priorities, which are drawn and change at D - 1 points, 1 to 64",
+        ))
 }
 
 // The command, which says too what is made of the runs.
 fn finding<'a>(alloc: Global, command: Command<'a>) -> Result<Command<'a>, AllocError>
     ensures { IfOk result (IsReshaped with_finding command.entry) }
 {
-    let save = option(alloc, "save", "PREFIX").help(
-        "Saves the shortest schedule of each kind of end, as PREFIX-1.schedule and so on",
-    );
-    let until = option(alloc, "until", "WORD").help(
-        "Stops at the first run of this kind: waits, fault or budget",
-    );
-    command.args(vec![in alloc; save, servers(alloc), until]?)
+    command
+        .arg(option(alloc, "save", "PREFIX").help(
+            "Saves the shortest schedule of each kind of end, as PREFIX-1.schedule and so on",
+        ))?
+        .arg(servers(alloc))?
+        .arg(option(alloc, "until", "WORD").help(
+            "Stops at the first run of this kind: waits, fault or budget",
+        ))
 }
 
 // The command that looks for a shorter schedule.
 fn shrink<'a>(alloc: Global) -> Result<Command<'a>, AllocError>
     ensures { IfOk result (IsShapedAs shrink_command) }
 {
-    let tries = count(alloc, "tries", "N").help(
-        "How many replays it may take, 1 to 1000000000 [default: 10000]",
-    );
-    let own = vec![in alloc; file(alloc, "SCHEDULE"), tries]?;
-    on_file(
-        alloc,
-        "shrink",
-        "Looks for a shorter schedule of a run that ends alike",
-    )?
-    .args(own)
+    let about = "Looks for a shorter schedule of a run that ends alike";
+    on_file(alloc, "shrink", about)?
+        .arg(file(alloc, "SCHEDULE"))?
+        .arg(count(alloc, "tries", "N").help(
+            "How many replays it may take, 1 to 1000000000 [default: 10000]",
+        ))
 }
 
 // The command that runs a script by hand.
@@ -226,21 +217,22 @@ fn file_alone<'a>(alloc: Global, name: &'a str, about: &'a str) -> Result<Comman
 fn explaining<'a>(alloc: Global, command: Command<'a>) -> Result<Command<'a>, AllocError>
     ensures { IfOk result (IsReshaped with_explain command.entry) }
 {
-    let explain = flag_of(alloc, "explain").help(
-        "Explains what is wrong, and where [default: on a terminal]",
-    );
-    let plain = flag_of(alloc, "plain").help("Explains nothing, on a terminal too");
-    command.args(vec![in alloc; explain, plain]?)
+    command
+        .arg(flag_of(alloc, "explain").help(
+            "Explains what is wrong, and where [default: on a terminal]",
+        ))?
+        .arg(flag_of(alloc, "plain").help("Explains nothing, on a terminal too"))
 }
 
 // The command, which says too which threads may be left at the end.
 fn ending<'a>(alloc: Global, command: Command<'a>) -> Result<Command<'a>, AllocError>
     ensures { IfOk result (IsReshaped with_end command.entry) }
 {
-    let strict = flag_of(alloc, "strict").help(
-        "Ends with status 6 where a thread is left waiting, or ended at a fault",
-    );
-    command.args(vec![in alloc; strict, servers(alloc)]?)
+    command
+        .arg(flag_of(alloc, "strict").help(
+            "Ends with status 6 where a thread is left waiting, or ended at a fault",
+        ))?
+        .arg(servers(alloc))
 }
 
 // A command on a file.

@@ -1,4 +1,4 @@
-use Rattle.std.proofs.Common.{rules, ◌≡◌, ◌∙◌, ap, ap₂, codes, true, []}
+use Rattle.std.proofs.Common.{rules, ◌≡◌, ◌∙◌, ap, codes, true, []}
 use Rattle.std.proofs.lemmas.Result.{IfOk-weaker}
 use Rattle.clap.specs.Words.{App, app_of, new_app, with_subcommand}
 use Rattle.cml_arguments.specs.Words.{file_command, part_command, replay_command, run_command, trace_command, with_others}
@@ -28,16 +28,14 @@ six = with_subcommand five (part_command (codes "explain"))
 
 pub returns : goal.returns
 returns c =
-    let is_none : app_of c.subcommand_required.result ≡ none = search rules in
-    let is_one : app_of c.in_ok-subcommand.field-0 ≡ one = c.in_ok-subcommand.ensures.shape c.in_ok-trace.ensures.globals ∙ ap₂ with_subcommand is_none c.in_ok-trace.ensures.shape in
-    let is_two : app_of c.in_ok-subcommand-2.field-0 ≡ two =
-    c.in_ok-subcommand-2.ensures.shape c.in_ok-check.ensures.globals ∙ ap₂ with_subcommand is_one c.in_ok-check.ensures.shape in
-    let is_three : app_of c.in_ok-subcommand-3.field-0 ≡ three =
-    c.in_ok-subcommand-3.ensures.shape c.in_ok-fmt.ensures.globals ∙ ap₂ with_subcommand is_two c.in_ok-fmt.ensures.shape in
-    let is_four : app_of c.in_ok-subcommand-4.field-0 ≡ four =
-    c.in_ok-subcommand-4.ensures.shape c.in_ok-run.ensures.globals ∙ ap₂ with_subcommand is_three c.in_ok-run.ensures.shape in
-    let is_five : app_of c.in_ok-subcommand-5.field-0 ≡ five =
-    c.in_ok-subcommand-5.ensures.shape c.in_ok-replay.ensures.globals ∙ ap₂ with_subcommand is_four c.in_ok-replay.ensures.shape in
-    let is_six : app_of c.in_ok-program.program ≡ six =
-    c.in_ok-program.ensures.shape c.in_ok-explain.ensures.globals ∙ ap₂ with_subcommand is_five c.in_ok-explain.ensures.shape in
+    let is_none : app_of c.subcommand_required-program.result ≡ none = search rules in
+    let is_one : app_of c.in_ok-program.program ≡ one = c.in_ok-program.ensures trace_command c.trace.ensures ∙ ap (λ app. with_subcommand app trace_command) is_none in
+    let is_two : app_of c.in_ok-program-2.program ≡ two =
+    c.in_ok-program-2.ensures (file_command (codes "check")) c.file_alone.ensures ∙ ap (λ app. with_subcommand app (file_command (codes "check"))) is_one in
+    let is_three : app_of c.in_ok-program-3.program ≡ three =
+    c.in_ok-program-3.ensures (file_command (codes "fmt")) c.file_alone-2.ensures ∙ ap (λ app. with_subcommand app (file_command (codes "fmt"))) is_two in
+    let is_four : app_of c.in_ok-program-4.program ≡ four = c.in_ok-program-4.ensures run_command c.run.ensures ∙ ap (λ app. with_subcommand app run_command) is_three in
+    let is_five : app_of c.in_ok-program-5.program ≡ five = c.in_ok-program-5.ensures replay_command c.replay.ensures ∙ ap (λ app. with_subcommand app replay_command) is_four in
+    let is_six : app_of c.in_ok-program-6.program ≡ six =
+    c.in_ok-program-6.ensures (part_command (codes "explain")) c.explain_run.ensures ∙ ap (λ app. with_subcommand app (part_command (codes "explain"))) is_five in
     IfOk-weaker c.others.result _ _ (λ command is. is ∙ ap with_others is_six) c.others.ensures

@@ -1,7 +1,9 @@
-use Rattle.std.proofs.Common.{rules}
-use Rattle.cml_arguments.specs.Words.{order_rules}
-use Rattle.cml_arguments.proofs.Added.{added, helped}
+use Rattle.std.proofs.Common.{rules, codes}
+use Rattle.std.proofs.lemmas.Result.{IfOk-weaker}
+use Rattle.cml_arguments.specs.Words.{depth_rule, flag_rule}
+use Rattle.cml_arguments.proofs.Added.{helped, one_more, one_then}
 use Rattle.cml_arguments.proofs.table.ordering.Goals as goal
 
 pub returns : goal.returns
-returns c = added _ order_rules _ _ _ _ c.in_ok-vec.ensures.items (search (rules, helped)) c.args-2.ensures
+returns c = IfOk-weaker c.arg-2.result _ _ (λ command adds. (one_then (flag_rule (codes "turns")) _ _ _ _ _ (search (rules, helped)) c.in_ok-arg.ensures
+    (one_more (depth_rule (codes "priority")) _ _ _ (search (rules, helped)) adds))) c.arg-2.ensures
