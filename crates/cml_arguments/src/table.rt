@@ -1,11 +1,14 @@
 //! The commands of the program and their arguments, as clap is told of them.
 
 ghost use Rattle.std.specs.Prelude.{◌≡◌, ◌<◌, ◌-◌, [], ◌∷◌, codes, false, true, IfOk};
-ghost use Rattle.clap.specs.Words.{app_of, with_subcommand, Shape};
-ghost use Rattle.cml_arguments.specs.Words.{any_rule, command_of, commands, count_rule, depth_rule, explains, explore_command, file_command, file_rule, flag_rule, list_rule, option_rule, part_command, replay_command, run_command, runs_rule, shrink_command, step_command, trace_command, with_end, with_explain, with_finding, with_order, with_others, workers_rule, FollowsRule, IsShapedAs, IsReshaped};
+ghost use Rattle.clap.specs.Words.{app_of, with_subcommand, App, Rule, Shape};
+ghost use Rattle.cml_arguments.specs.Words.{any_rule, command_of, commands, count_rule, depth_rule, explains, explore_command, file_command, file_rule, flag_rule, list_rule, option_rule, part_command, replay_command, run_command, runs_rule, shrink_command, step_command, trace_command, with_end, with_explain, with_finding, with_order, with_others, with_rule, workers_rule, FollowsRule, IsShapedAs};
 
 use clap::{Arg, ArgAction, Command, value_parser};
 use std::alloc::{AllocError, Global};
+
+// A command, where there was memory to make it.
+type Made<'a> = Result<Command<'a>, AllocError>;
 
 // The most steps or items that an option counts.
 const MOST: i64 = 1_000_000_000;
@@ -29,79 +32,84 @@ pub fn command<'a>(alloc: Global) -> Result<Command<'a>, AllocError>
     let program = Command::new(alloc, "cml")
         .about("Events of Concurrent ML: answers traces of commands, and checks and runs scripts")
         .subcommand_required(true);
-    let program = with_command(program, trace(alloc))?;
-    let program = with_command(program, file_alone(alloc, "check", "Checks a script"))?;
+    let program = with_command(Ok(program), trace(alloc));
+    let program = with_command(program, file_alone(alloc, "check", "Checks a script"));
     let program = with_command(
         program,
         file_alone(alloc, "fmt", "Prints the forms of a text, each on a line"),
-    )?;
-    let program = with_command(program, run(alloc))?;
-    let program = with_command(program, replay(alloc))?;
-    let program = with_command(program, explain_run(alloc))?;
+    );
+    let program = with_command(program, run(alloc));
+    let program = with_command(program, replay(alloc));
+    let program = with_command(program, explain_run(alloc));
     others(alloc, program)
 }
 
 // The program, with the commands that make a run again and again, or by hand.
-fn others<'a>(alloc: Global, program: Command<'a>) -> Result<Command<'a>, AllocError>
-    ensures { IfOk result (λ command. app_of command ≡ with_others (app_of program.entry)) }
+fn others<'a>(alloc: Global, program: Made<'a>) -> Made<'a>
+    ensures { (app : App) → IfOk program.entry (λ old. app_of old ≡ app) → IfOk result (λ new. app_of new ≡ with_others app) }
 {
-    let program = with_command(program, explore(alloc))?;
-    let program = with_command(program, shrink(alloc))?;
-    let program = with_command(program, draw(alloc))?;
+    let program = with_command(program, explore(alloc));
+    let program = with_command(program, shrink(alloc));
+    let program = with_command(program, draw(alloc));
     with_command(program, step(alloc))
 }
 
-// The program, with one command more, where there was memory to make it.
-fn with_command<'a>(
-    program: Command<'a>,
-    command: Result<Command<'a>, AllocError>,
-) -> Result<Command<'a>, AllocError>
-    ensures { IfOk result (λ new. (shape : Shape) → IfOk command.entry (IsShapedAs shape) → app_of new ≡ with_subcommand (app_of program.entry) shape) }
+// The program, with one command more.
+fn with_command<'a>(program: Made<'a>, command: Made<'a>) -> Made<'a>
+    ensures { (app : App) (shape : Shape) → IfOk program.entry (λ old. app_of old ≡ app) → IfOk command.entry (IsShapedAs shape)
+        → IfOk result (λ new. app_of new ≡ with_subcommand app shape) }
 {
-    program.subcommand(command?)
+    program?.subcommand(command?)
+}
+
+// The command, with one argument more.
+fn with_arg<'a>(command: Made<'a>, arg: Arg<'a>) -> Made<'a>
+    ensures { (rule : Rule) (shape : Shape) → FollowsRule rule arg.entry → IfOk command.entry (IsShapedAs shape) → IfOk result (IsShapedAs (with_rule rule shape)) }
+{
+    command?.arg(arg)
 }
 
 // The command that answers a trace.
-fn trace<'a>(alloc: Global) -> Result<Command<'a>, AllocError>
+fn trace<'a>(alloc: Global) -> Made<'a>
     ensures { IfOk result (IsShapedAs trace_command) }
 {
-    let command = Command::new(alloc, "trace")
-        .about("Answers the commands on standard input")
-        .arg(flag_of(alloc, "live").help("Answers each line as soon as it has been read"))?;
-    explaining(alloc, command)
+    let command = Command::new(alloc, "trace").about("Answers the commands on standard input");
+    let live = flag_of(alloc, "live").help("Answers each line as soon as it has been read");
+    explaining(alloc, with_arg(Ok(command), live))
 }
 
 // The command that runs a script.
-fn run<'a>(alloc: Global) -> Result<Command<'a>, AllocError>
+fn run<'a>(alloc: Global) -> Made<'a>
     ensures { IfOk result (IsShapedAs run_command) }
 {
-    let command = on_file(alloc, "run", "Runs a script")?
-        .arg(workers(alloc).help("How many workers run its threads, 1 to 64 [default: 1]"))?
-        .arg(count(alloc, "steps", "B").help(
-            "How many steps it may take, 1 to 1000000000 [default: 1000000]",
-        ))?
-        .arg(seed(alloc).help("Draws the choices from this number"))?
-        .arg(watch(alloc))?
-        .arg(record(alloc))?
-        .arg(option(alloc, "draw", "FILE").help("Saves a picture of the run"))?;
-    let ended = ending(alloc, command)?;
-    explaining(alloc, ended)
+    let steps = count(alloc, "steps", "B").help(
+        "How many steps it may take, 1 to 1000000000 [default: 1000000]",
+    );
+    let workers = workers(alloc).help("How many workers run its threads, 1 to 64 [default: 1]");
+    let seed = seed(alloc).help("Draws the choices from this number");
+    let draw = option(alloc, "draw", "FILE").help("Saves a picture of the run");
+    let command = on_file(alloc, "run", "Runs a script");
+    let command = with_arg(command, workers);
+    let command = with_arg(command, steps);
+    let command = with_arg(command, seed);
+    let command = with_arg(command, watch(alloc));
+    let command = with_arg(command, record(alloc));
+    let command = with_arg(command, draw);
+    explaining(alloc, ending(alloc, command))
 }
 
 // The command that runs a script again.
-fn replay<'a>(alloc: Global) -> Result<Command<'a>, AllocError>
+fn replay<'a>(alloc: Global) -> Made<'a>
     ensures { IfOk result (IsShapedAs replay_command) }
 {
     let about = "Runs a script by a schedule that was saved";
-    let command = on_file(alloc, "replay", about)?
-        .arg(file(alloc, "SCHEDULE"))?
-        .arg(watch(alloc))?;
-    let ended = ending(alloc, command)?;
-    explaining(alloc, ended)
+    let command = with_arg(on_file(alloc, "replay", about), file(alloc, "SCHEDULE"));
+    let command = with_arg(command, watch(alloc));
+    explaining(alloc, ending(alloc, command))
 }
 
 // The command that says what happens in a run.
-fn explain_run<'a>(alloc: Global) -> Result<Command<'a>, AllocError>
+fn explain_run<'a>(alloc: Global) -> Made<'a>
     ensures { IfOk result (IsShapedAs (part_command (codes "explain"))) }
 {
     part_of_run(
@@ -114,7 +122,7 @@ fn explain_run<'a>(alloc: Global) -> Result<Command<'a>, AllocError>
 }
 
 // The command that draws what happens in a run.
-fn draw<'a>(alloc: Global) -> Result<Command<'a>, AllocError>
+fn draw<'a>(alloc: Global) -> Made<'a>
     ensures { IfOk result (IsShapedAs (part_command (codes "draw"))) }
 {
     part_of_run(
@@ -133,110 +141,108 @@ fn part_of_run<'a>(
     about: &'a str,
     first: &'a str,
     last: &'a str,
-) -> Result<Command<'a>, AllocError>
+) -> Made<'a>
     ensures { IfOk result (IsShapedAs (part_command name.now)) }
 {
-    on_file(alloc, name, about)?
-        .arg(file(alloc, "SCHEDULE"))?
-        .arg(count(alloc, "from", "I").help(first))?
-        .arg(count(alloc, "to", "J").help(last))
+    let command = with_arg(on_file(alloc, name, about), file(alloc, "SCHEDULE"));
+    let command = with_arg(command, count(alloc, "from", "I").help(first));
+    with_arg(command, count(alloc, "to", "J").help(last))
 }
 
 // The command that runs a script many times.
-fn explore<'a>(alloc: Global) -> Result<Command<'a>, AllocError>
+fn explore<'a>(alloc: Global) -> Made<'a>
     ensures { IfOk result (IsShapedAs explore_command) }
 {
+    let runs = runs(alloc).help("How many runs, 1 to 1000000 [default: 100]");
+    let seed = seed(alloc).help(
+        "The seed of the first run; each further one has the next [default: 0]",
+    );
+    let steps = count(alloc, "steps", "B").help(
+        "How many steps each may take, 1 to 1000000000 [default: 1000000]",
+    );
+    let workers = workers(alloc).help("How many workers make the runs, 1 to 64 [default: 1]");
     let about = "Runs a script many times, and says how the runs end";
-    let counted = on_file(alloc, "explore", about)?
-        .arg(runs(alloc).help("How many runs, 1 to 1000000 [default: 100]"))?
-        .arg(seed(alloc).help(
-            "The seed of the first run; each further one has the next [default: 0]",
-        ))?
-        .arg(count(alloc, "steps", "B").help(
-            "How many steps each may take, 1 to 1000000000 [default: 1000000]",
-        ))?
-        .arg(workers(alloc).help("How many workers make the runs, 1 to 64 [default: 1]"))?;
-    let ordered = ordering(alloc, counted)?;
-    finding(alloc, ordered)
+    let command = with_arg(on_file(alloc, "explore", about), runs);
+    let command = with_arg(command, seed);
+    let command = with_arg(command, steps);
+    let command = with_arg(command, workers);
+    finding(alloc, ordering(alloc, command))
 }
 
 // The command, which says too how the order of the turns comes about.
-fn ordering<'a>(alloc: Global, command: Command<'a>) -> Result<Command<'a>, AllocError>
-    ensures { IfOk result (IsReshaped with_order command.entry) }
+fn ordering<'a>(alloc: Global, command: Made<'a>) -> Made<'a>
+    ensures { (shape : Shape) → IfOk command.entry (IsShapedAs shape) → IfOk result (IsShapedAs (with_order shape)) }
 {
-    command
-        .arg(flag_of(alloc, "turns").help("Draws the order of the threads' turns too"))?
-        .arg(priority(alloc).help(
-            "Gives the turns by priorities, which are drawn and change at D - 1 points, 1 to 64",
-        ))
+    let turns = flag_of(alloc, "turns").help("Draws the order of the threads' turns too");
+    let priority = priority(alloc).help(
+        "Gives the turns by priorities, which are drawn and change at D - 1 points, 1 to 64",
+    );
+    with_arg(with_arg(command, turns), priority)
 }
 
 // The command, which says too what is made of the runs.
-fn finding<'a>(alloc: Global, command: Command<'a>) -> Result<Command<'a>, AllocError>
-    ensures { IfOk result (IsReshaped with_finding command.entry) }
+fn finding<'a>(alloc: Global, command: Made<'a>) -> Made<'a>
+    ensures { (shape : Shape) → IfOk command.entry (IsShapedAs shape) → IfOk result (IsShapedAs (with_finding shape)) }
 {
-    command
-        .arg(option(alloc, "save", "PREFIX").help(
-            "Saves the shortest schedule of each kind of end, as PREFIX-1.schedule and so on",
-        ))?
-        .arg(servers(alloc))?
-        .arg(option(alloc, "until", "WORD").help(
-            "Stops at the first run of this kind: waits, fault or budget",
-        ))
+    let save = option(alloc, "save", "PREFIX").help(
+        "Saves the shortest schedule of each kind of end, as PREFIX-1.schedule and so on",
+    );
+    let until = option(alloc, "until", "WORD").help(
+        "Stops at the first run of this kind: waits, fault or budget",
+    );
+    with_arg(with_arg(with_arg(command, save), servers(alloc)), until)
 }
 
 // The command that looks for a shorter schedule.
-fn shrink<'a>(alloc: Global) -> Result<Command<'a>, AllocError>
+fn shrink<'a>(alloc: Global) -> Made<'a>
     ensures { IfOk result (IsShapedAs shrink_command) }
 {
     let about = "Looks for a shorter schedule of a run that ends alike";
-    on_file(alloc, "shrink", about)?
-        .arg(file(alloc, "SCHEDULE"))?
-        .arg(count(alloc, "tries", "N").help(
-            "How many replays it may take, 1 to 1000000000 [default: 10000]",
-        ))
+    let tries = count(alloc, "tries", "N").help(
+        "How many replays it may take, 1 to 1000000000 [default: 10000]",
+    );
+    let command = with_arg(on_file(alloc, "shrink", about), file(alloc, "SCHEDULE"));
+    with_arg(command, tries)
 }
 
 // The command that runs a script by hand.
-fn step<'a>(alloc: Global) -> Result<Command<'a>, AllocError>
+fn step<'a>(alloc: Global) -> Made<'a>
     ensures { IfOk result (IsShapedAs step_command) }
 {
     let about = "Runs a script by hand: shows what can happen, and asks what does";
-    on_file(alloc, "step", about)?.arg(record(alloc))
+    with_arg(on_file(alloc, "step", about), record(alloc))
 }
 
 // A command that takes a file alone.
-fn file_alone<'a>(alloc: Global, name: &'a str, about: &'a str) -> Result<Command<'a>, AllocError>
+fn file_alone<'a>(alloc: Global, name: &'a str, about: &'a str) -> Made<'a>
     ensures { IfOk result (IsShapedAs (file_command name.now)) }
 {
-    let command = on_file(alloc, name, about)?;
-    explaining(alloc, command)
+    explaining(alloc, on_file(alloc, name, about))
 }
 
 // The command, which says too whether it explains what is wrong.
-fn explaining<'a>(alloc: Global, command: Command<'a>) -> Result<Command<'a>, AllocError>
-    ensures { IfOk result (IsReshaped with_explain command.entry) }
+fn explaining<'a>(alloc: Global, command: Made<'a>) -> Made<'a>
+    ensures { (shape : Shape) → IfOk command.entry (IsShapedAs shape) → IfOk result (IsShapedAs (with_explain shape)) }
 {
-    command
-        .arg(flag_of(alloc, "explain").help(
-            "Explains what is wrong, and where [default: on a terminal]",
-        ))?
-        .arg(flag_of(alloc, "plain").help("Explains nothing, on a terminal too"))
+    let explain = flag_of(alloc, "explain").help(
+        "Explains what is wrong, and where [default: on a terminal]",
+    );
+    let plain = flag_of(alloc, "plain").help("Explains nothing, on a terminal too");
+    with_arg(with_arg(command, explain), plain)
 }
 
 // The command, which says too which threads may be left at the end.
-fn ending<'a>(alloc: Global, command: Command<'a>) -> Result<Command<'a>, AllocError>
-    ensures { IfOk result (IsReshaped with_end command.entry) }
+fn ending<'a>(alloc: Global, command: Made<'a>) -> Made<'a>
+    ensures { (shape : Shape) → IfOk command.entry (IsShapedAs shape) → IfOk result (IsShapedAs (with_end shape)) }
 {
-    command
-        .arg(flag_of(alloc, "strict").help(
-            "Ends with status 6 where a thread is left waiting, or ended at a fault",
-        ))?
-        .arg(servers(alloc))
+    let strict = flag_of(alloc, "strict").help(
+        "Ends with status 6 where a thread is left waiting, or ended at a fault",
+    );
+    with_arg(with_arg(command, strict), servers(alloc))
 }
 
 // A command on a file.
-fn on_file<'a>(alloc: Global, name: &'a str, about: &'a str) -> Result<Command<'a>, AllocError>
+fn on_file<'a>(alloc: Global, name: &'a str, about: &'a str) -> Made<'a>
     ensures { IfOk result (IsShapedAs (command_of name.now (file_rule (codes "FILE") ∷ []))) }
 {
     let file = file(alloc, "FILE");

@@ -1,10 +1,10 @@
 use Rattle.std.proofs.Common.{rules, codes}
-use Rattle.std.proofs.lemmas.Result.{IfOk-weaker}
-use Rattle.cml_arguments.specs.Words.{list_rule, option_rule}
-use Rattle.cml_arguments.proofs.Added.{helped, one_more, one_then}
+use Rattle.cml_arguments.specs.Words.{list_rule, option_rule, with_rule}
+use Rattle.cml_arguments.proofs.Added.{helped, shaped, three_added}
 use Rattle.cml_arguments.proofs.table.finding.Goals as goal
 
 pub returns : goal.returns
-returns c = IfOk-weaker c.arg-3.result _ _ (λ command adds. (one_then (option_rule (codes "save")) _ _ _ _ _ (search (rules, helped)) c.in_ok-arg.ensures
-    (one_then (list_rule (codes "servers")) _ _ _ _ _ c.servers.ensures c.in_ok-arg-2.ensures
-    (one_more (option_rule (codes "until")) _ _ _ (search (rules, helped)) adds)))) c.arg-3.ensures
+returns c = λ shape made.
+    let one = c.with_arg.ensures (option_rule (codes "save")) shape (search (rules, helped)) made in
+    let two = c.with_arg-2.ensures (list_rule (codes "servers")) (with_rule (option_rule (codes "save")) shape) c.servers.ensures one in
+    shaped _ _ _ _ (three_added (option_rule (codes "save")) (list_rule (codes "servers")) (option_rule (codes "until")) shape) (c.with_arg-3.ensures (option_rule (codes "until")) (with_rule (list_rule (codes "servers")) (with_rule (option_rule (codes "save")) shape)) (search (rules, helped)) two)

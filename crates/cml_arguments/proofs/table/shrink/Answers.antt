@@ -1,14 +1,10 @@
-use Rattle.std.proofs.Common.{rules, codes, List, [], ◌∷◌}
-use Rattle.std.proofs.lemmas.Result.{IfOk-weaker}
-use Rattle.clap.specs.Words.{Rule}
-use Rattle.cml_arguments.specs.Words.{count_rule, file_rule}
-use Rattle.cml_arguments.proofs.Added.{helped, made, one_more, one_then, with_rules}
+use Rattle.std.proofs.Common.{rules, codes, [], ◌∷◌}
+use Rattle.cml_arguments.specs.Words.{command_of, count_rule, file_rule, with_rule}
+use Rattle.cml_arguments.proofs.Added.{helped}
 use Rattle.cml_arguments.proofs.table.shrink.Goals as goal
 
--- the rules of its own arguments
-abbrev own : List Rule
-own = file_rule (codes "SCHEDULE") ∷ count_rule (codes "tries") ∷ []
-
 pub returns : goal.returns
-returns c = IfOk-weaker c.arg-2.result _ _ (λ command adds. made (with_rules own) _ _ _ c.in_ok-on_file.ensures (one_then (file_rule (codes "SCHEDULE")) _ _ _ _ _ c.file.ensures c.in_ok-arg.ensures
-    (one_more (count_rule (codes "tries")) _ _ _ (search (rules, helped)) adds))) c.arg-2.ensures
+returns c =
+    let begun = (command_of (codes "shrink") (file_rule (codes "FILE") ∷ [])) in
+    let one = c.with_arg-command.ensures (file_rule (codes "SCHEDULE")) begun c.file.ensures c.on_file.ensures in
+    c.with_arg.ensures (count_rule (codes "tries")) (with_rule (file_rule (codes "SCHEDULE")) begun) (search (rules, helped)) one
