@@ -4,9 +4,13 @@ Of the function that the edit changes: its whole text, and its answers and invar
 each of them.) Of the rest of its crate: specs, lemmas, types, traits and constants, and the contracts of the functions that it can name.
 Of a crate below: what a crate above can read of it. The body of another function is in none of these, and no line that is a comment, since of
 comments the prover makes nothing.
+
+    python3 tools/rests.py      changes parts of a small crate, and says whether those count, and no others, that should
 """
 import functools
+import pathlib
 import re
+import tempfile
 
 PARTS = ("src", "specs", "proofs")
 COMMENTS = {".rt": b"//", ".antt": b"--"}  # what a line that is a comment begins with
@@ -218,3 +222,94 @@ def word_for(path):
     """The word by which a text cites what has this path; nothing, which stands in each text, where there is no telling."""
     name = re.split(r"::|\.", path.split(" as ")[-1])[-1].strip()
     return "" if name in ("self", "*", "_") else max(name.split("◌"), key=len)
+
+
+TRIED = {
+    "src/lib.rt": """//! Numbers.
+#![tactic(auto)]
+ghost use Rattle.std.specs.Prelude.{◌≡◌};
+ghost use Rattle.tried.specs.Numbers.{twice, thrice};
+
+mod more;
+
+/// What a number is.
+pub struct Number(u8);
+
+/// Twice a number.
+#[tactic(auto)]
+pub fn double(x: u8) -> u8
+    ensures { result ≡ twice x }
+{
+    shift(x)
+}
+
+pub fn triple(x: u8) -> u8
+    ensures { result ≡ thrice x }
+{
+    double(x) + x
+}
+""",
+    "src/more.rt": """ghost use Rattle.tried.specs.Numbers.{twice};
+impl Number {
+    pub(crate) fn shift(x: u8) -> u8
+        ensures { result ≡ twice x }
+    {
+        x << 1
+    }
+
+    fn unused() {}
+}
+""",
+    "specs/Numbers.antt": "twice x = x + x\n",
+    "proofs/Lemmas.antt": "one : 1 ≡ 1\n",
+    "proofs/double/Answers.antt": "returns = one\n",
+    "proofs/triple/Answers.antt": "returns = two\n",
+}
+# what is changed, with what, in which file; and whether it counts for an edit of `double`, and for a crate above
+CHANGES = [
+    ("src/lib.rt", "    shift(x)", "    shift(x) + 0", True, False),
+    ("src/lib.rt", "{ result ≡ twice x }", "{ result ≡ twice x + 0 }", True, True),
+    ("src/lib.rt", "#[tactic(auto)]\npub fn double", "#[tactic(none)]\npub fn double", True, False),
+    ("src/lib.rt", "#![tactic(auto)]", "#![tactic(none)]", True, True),
+    ("src/lib.rt", "double(x) + x", "x + double(x)", False, False),
+    ("src/lib.rt", "{ result ≡ thrice x }", "{ result ≡ x + twice x }", False, True),
+    ("src/lib.rt", "Number(u8)", "Number(u16)", True, True),
+    ("src/lib.rt", "//! Numbers.", "//! Of numbers.", False, False),
+    ("src/more.rt", "x << 1", "x + x", False, False),
+    ("src/more.rt", "{ result ≡ twice x }", "{ result ≡ x + x }", True, False),
+    ("src/more.rt", "fn unused() {}", "fn unused() {\n        shift(1);\n    }", False, False),
+    ("src/more.rt", "fn unused() {}", "fn not_used() {}", False, False),
+    ("src/more.rt", "    fn unused() {}", "    pub fn unused() {}", False, True),
+    ("specs/Numbers.antt", "x + x", "2 * x", True, True),
+    ("proofs/Lemmas.antt", "1 ≡ 1", "2 ≡ 2", True, True),
+    ("proofs/double/Answers.antt", "one", "two", True, False),
+    ("proofs/triple/Answers.antt", "two", "one", False, False),
+]
+
+
+def resting(texts):
+    """What a verdict on an edit of `double` rests on in a crate of these files, and what one of a crate above."""
+    with tempfile.TemporaryDirectory() as room:
+        for path, text in texts.items():
+            file = pathlib.Path(room, path)
+            file.parent.mkdir(parents=True, exist_ok=True)
+            file.write_text(text, encoding="utf-8")
+        crate = Crate(pathlib.Path(room))
+        path, function = next(it for it in crate.functions if it[1].name == "double")
+        return crate.frame() + crate.of_function(path, function, ""), crate.shown()
+
+
+def try_itself():
+    """The changes of which it says another thing than it should."""
+    before, wrong = resting(TRIED), []
+    for path, old, new, *wanted in CHANGES:
+        after = resting({**TRIED, path: TRIED[path].replace(old, new, 1)})
+        if [one != other for one, other in zip(before, after)] != wanted or TRIED[path].count(old) < 1:
+            wrong.append(f"{path}: {old} -> {new}: {[one != other for one, other in zip(before, after)]}")
+    return wrong
+
+
+if __name__ == "__main__":
+    found = try_itself()
+    print("\n".join([*found, f"{len(CHANGES) - len(found)} passed, {len(found)} failed"]))
+    raise SystemExit(bool(found))
