@@ -158,11 +158,12 @@ class Crate:
             found += [path, source.with_imports("\n".join([source.rest, *heads]))]
         return found
 
-    def of_function(self, path, function, edit):
-        """What a verdict on an edit of this function rests on, beside the frame: the functions of its ring, with their proofs, and the
-        contracts of all that these, or the edit, can name."""
-        ring = [it for it in self.functions if it[1] is function or function.cycle and it[1].cycle == function.cycle]
-        names = {f"+{function.cycle}", *(it.name for _, it in ring)}
+    def of_functions(self, changed, edit):
+        """What a verdict on an edit of these functions rests on, beside the frame: the functions, with those of their rings and with their proofs,
+        and the contracts of all that these, or the edit, can name."""
+        cycles = {it.cycle for it in changed if it.cycle}
+        ring = [it for it in self.functions if it[1] in changed or it[1].cycle in cycles]
+        names = {*(f"+{it}" for it in cycles), *(it.name for _, it in ring)}
         # (what belongs to no function that is known counts for each)
         proofs = [at for at, name in self.proofs.items() if name in names or name not in self.names and not name.startswith("+")]
         found = [text for at in {it: None for it, _ in ring} for text in (at, self.sources[at].uses)]
@@ -295,8 +296,8 @@ def resting(texts):
             file.parent.mkdir(parents=True, exist_ok=True)
             file.write_text(text, encoding="utf-8")
         crate = Crate(pathlib.Path(room))
-        path, function = next(it for it in crate.functions if it[1].name == "double")
-        return crate.frame() + crate.of_function(path, function, ""), crate.shown()
+        changed = [it for _, it in crate.functions if it.name == "double"]
+        return crate.frame() + crate.of_functions(changed, ""), crate.shown()
 
 
 def try_itself():
