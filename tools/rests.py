@@ -17,6 +17,7 @@ COMMENTS = {".rt": b"//", ".antt": b"--"}  # what a line that is a comment begin
 OF_PROOFS = ("Answers.antt", "Invariants.antt")
 HEAD = re.compile(r"( *)(pub(?:\([^)]*\))? )?(?:const )?(?:unsafe )?fn (\w+)")
 OWNER = re.compile(r"(?:pub(?:\([^)]*\))? )?(?:unsafe )?(impl|trait)\b(.*)")
+USE = re.compile(r"(?:ghost )?use ")  # of a module, and of no other
 IMPORT = re.compile(r"^((?:ghost )?use )([^;]*);$", re.M)
 CYCLE = re.compile(r"#\[cycle\((\w+)")
 WORD = re.compile(r"\w+")
@@ -51,30 +52,31 @@ class Source:
         lines = None if b"macro_rules!" in text else told_lines(text, COMMENTS[".rt"])
         self.numbers, self.lines, self.quoted = [list(it) for it in zip(*lines or [])] or [[], [], []]
         self.lines = [it.decode("utf-8", "surrogateescape") for it in self.lines]
-        self.functions, left = [], []
-        self.cut(left)
-        left = "\n".join(left) if lines else text.decode("utf-8", "surrogateescape")
-        self.uses = "".join(f"{it[0]}\n" for it in IMPORT.finditer(left))
-        self.rest = re.sub(r"\n{2,}", "\n", IMPORT.sub("", left))
+        self.functions, uses, rest = [], [], []
+        self.cut(uses, rest)
+        self.uses, self.rest = "\n".join(uses), "\n".join(rest) if lines else text.decode("utf-8", "surrogateescape")
         # (each name that is imported, with the word that stands for it)
-        self.imports = [(kind + path, word_for(path)) for kind, tree in IMPORT.findall(left) for path in paths_of(tree)]
+        self.imports = [(kind + path, word_for(path)) for kind, tree in IMPORT.findall(self.uses) for path in paths_of(tree)]
 
-    def cut(self, left):
+    def cut(self, uses, rest):
         owner, attributes, at = "", 0, 0
         while at < len(self.lines):
-            line = self.lines[at]
-            if line.lstrip().startswith("#[") and not self.quoted[at]:
+            line = "" if self.quoted[at] else self.lines[at]
+            if line.lstrip().startswith("#["):
                 end = attribute_end(self.lines, at)
                 attributes, at = attributes + end - at, end
                 continue
             if line and not line.startswith((" ", "}")):
                 owner = line if OWNER.match(line) else ""
-            found = None if self.quoted[at] else HEAD.match(line)
+            found = HEAD.match(line)
             body, end = self.body_of(at, found[1]) if found else (at, None)
-            if end is None:
-                left += self.lines[at - attributes : at + 1]
-            else:
+            if end is not None:
                 self.functions.append(Function(self, owner if found[1] else "", found, at - attributes, at, body, end))
+            elif USE.match(line) and not attributes:
+                end = next((n for n in range(at, len(self.lines)) if self.lines[n].endswith(";")), at)
+                uses += self.lines[at : end + 1]
+            elif line or self.quoted[at]:
+                rest += self.lines[at - attributes : at + 1]
             at, attributes = (at if end is None else end) + 1, 0
 
     def body_of(self, at, margin):
@@ -132,7 +134,7 @@ class Crate:
         self.functions = [(path, it) for path, source in self.sources.items() for it in source.functions]
         self.names = {it.name for _, it in self.functions}
         # (a function may stand under another name where it is called)
-        self.renamed = " ".join(use for it in self.sources.values() for use in f"{it.uses}{it.rest}".split("\n") if " as " in use)
+        self.renamed = " ".join(use for it in self.sources.values() for use in f"{it.uses}\n{it.rest}".split("\n") if " as " in use)
 
     def whole(self):
         return [it for path, text in self.told.items() for it in (path, text)]
