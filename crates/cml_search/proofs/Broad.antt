@@ -6,7 +6,7 @@ use Rattle.std.proofs.lemmas.Bool.Decides.{nat_tests}
 use Rattle.std.proofs.lemmas.List.Elements.{All-nil, All-cons, All-push, All-weaker, All-contains}
 use Rattle.std.proofs.lemmas.Option.{slice_get_within, get_or_from_slice_get, same_Some, IfSome_then}
 use Rattle.cml_search.specs.Systems.{System, run, IsReached, IsTerminal, IsLawful}
-use Rattle.cml_search.specs.Searches.{Counts, IsTrail, Keeps, IsOnce, AreEnough, LeadsNear, IsFollowedNear, IsBroad, IsSearch, IsSought, IsShortest}
+use Rattle.cml_search.specs.Searches.{Depths, IsTrail, Keeps, IsOnce, AreEnough, LeadsNear, IsFollowedNear, IsBroad, IsSearch, IsSought, IsShortest}
 use Rattle.cml_search.proofs.Runs.{at_some, begins, reached_next}
 use Rattle.cml_search.proofs.Places.{get_front, get_end, get_push_cases, all_at, place_of, either_way}
 use Rattle.cml_search.proofs.Quiet.{comes_first}
@@ -70,7 +70,7 @@ module _ {S I : Type 0} (y : System S I) where
             | inr e ↦ let is = deep_old k e in omega (arith, is, b.near inside k e)
           ]
 
-      counts_on : Counts (origins ++ (at, i) ∷ []) deep
+      counts_on : Depths (origins ++ (at, i) ∷ []) deep
       counts_on = record { start = deep_old 0 (omega (arith, inside)) ∙ b.counts.start; more = λ k o h. by k o (get_push_cases origins (at, i) k o h) }
         where
           by : (k : ℕ) (o : ℕ × I) → (slice_get origins k ≡ Some o) ⊎ ((k ≡ length origins) × ((at, i) ≡ o)) → deep (k + 1) ≡ deep o.0 + 1
@@ -265,7 +265,7 @@ module _ {S I : Type 0} (y : System S I) where
 module _ {S I : Type 0} (y : System S I) (lawful : IsLawful y) (quietly : Bool) (followed : ℕ) (states : List S) (origins : List (ℕ × I)) (found : IsSearch y quietly followed states origins) where
   -- items that go back from a place to the start are the fewest that lead to it
   pub shortest_at : (place : ℕ) (back items : List I) → length items ≡ length back → (at : ℕ) → at ≡ 0
-      → ((d : ℕ → ℕ) → Counts origins d → length back + d at ≡ d place) → IfSome (slice_get states place) (IsShortest y quietly items)
+      → ((d : ℕ → ℕ) → Depths origins d → length back + d at ≡ d place) → IfSome (slice_get states place) (IsShortest y quietly items)
   shortest_at place back items same at zero_is counts = by (slice_get states place) refl
     where
       by : (o : Option S) → slice_get states place ≡ o → IfSome o (IsShortest y quietly items)
@@ -277,7 +277,7 @@ module _ {S I : Type 0} (y : System S I) (lawful : IsLawful y) (quietly : Bool) 
           λ others sought. omega (arith, same, whole, start, no_fewer y lawful quietly followed states origins found.keeps b place s e others sought)
 
   -- what so few items lead to as to the first state that was not followed was found
-  pub found_within : followed < length states → (count at : ℕ) → at ≡ 0 → ((d : ℕ → ℕ) → Counts origins d → count + d at ≡ d followed)
+  pub found_within : followed < length states → (count at : ℕ) → at ≡ 0 → ((d : ℕ → ℕ) → Depths origins d → count + d at ≡ d followed)
       → (items : List I) (s : S) → IsSought y quietly items s → length items ≤ count → Contains states s
   found_within stopped count at zero_is counts items s sought few =
       let b = found.broad in

@@ -5,7 +5,7 @@ use Rattle.std.specs.Option.{option_map_or}
 use Rattle.std.proofs.lemmas.Option.{same_Some, slice_get_within}
 use Rattle.std.proofs.lemmas.List.{set_comm, set-append_left}
 use Rattle.cml_search.specs.Systems.{KeepsQuiet, Swaps}
-use Rattle.cml_search.specs.Threads.{Stand, Act, turn, event, Machine, after_turn, stepped, is_quiet, AreLocal, owner_of, system_of}
+use Rattle.cml_search.specs.Threads.{Stand, Act, turn, event, Machine, after_turn, stepped, is_quiet, AreLocal, turn_owner, system_of}
 
 -- reads and writes at places
 get_set_other : {X : Type 0} (xs : List X) (i j : ℕ) (y : X) → i ≢ j → slice_get (slice_set xs j y) i ≡ slice_get xs i
@@ -116,11 +116,11 @@ module _ {W T J : Type 0} (m : Machine W T J) (listed : Stand W T → List (Act 
     keeps : KeepsQuiet (system_of m listed) s (turn t)
     keeps = record { can = subst IsSome (sym (turn_is s t x r h)) refl; alone = alone; swaps = swaps }
       where
-        alone : (i : Act J) (d : Stand W T) → stepped m s i ≡ Some d → owner_of i ≡ owner_of {J = J} (turn t) → i ≡ turn t
+        alone : (i : Act J) (d : Stand W T) → stepped m s i ≡ Some d → turn_owner i ≡ turn_owner {J = J} (turn t) → i ≡ turn t
         alone (turn u) d e own = ap (λ n. turn n) (same_Some u t own)
         alone (event j) d e own = cc
 
-        swaps : (i : Act J) (d : Stand W T) → stepped m s i ≡ Some d → owner_of i ≢ owner_of {J = J} (turn t) → Swaps (system_of m listed) s (turn t) i d
+        swaps : (i : Act J) (d : Stand W T) → stepped m s i ≡ Some d → turn_owner i ≢ turn_owner {J = J} (turn t) → Swaps (system_of m listed) s (turn t) i d
         swaps (turn u) d e other =
             let f = mapped (m.runs s.world u) (λ z. after_turn m s u (m.turned s.world u z)) (slice_get s.terms u) d e in
             subst (Swaps (system_of m listed) s (turn t) (turn u)) f.gives (swaps_turn u f.from (λ n. other (ap (λ k. Some k) n)) f.allowed f.is)

@@ -12,7 +12,7 @@ abbrev pub IsOnce : {S : Type 0} → List S → Type 0
 IsOnce {S} states = (j k : ℕ) (s : S) → slice_get states j ≡ Some s → slice_get states k ≡ Some s → j ≡ k
 
 -- By the origins, one item more leads to a state than to the one that it came of: how many lead to the state at each place.
-pub record Counts {I : Type 0} (origins : List (ℕ × I)) (depth : ℕ → ℕ) : Type 0 where
+pub record Depths {I : Type 0} (origins : List (ℕ × I)) (depth : ℕ → ℕ) : Type 0 where
   pub start : depth 0 ≡ 0
   pub more : (k : ℕ) (o : ℕ × I) → slice_get origins k ≡ Some o → depth (k + 1) ≡ depth o.0 + 1
 
@@ -50,7 +50,7 @@ module _ {S I : Type 0} (y : System S I) where
   -- no further than one item on; of the next state these items were followed.
   pub record IsBroad (quietly : Bool) (followed : ℕ) (states : List S) (origins : List (ℕ × I)) (begun : List I) : Type 0 where
     pub depth : ℕ → ℕ
-    pub counts : Counts origins depth
+    pub counts : Depths origins depth
     pub within : followed ≤ length states
     pub order : (j k : ℕ) → j ≤ k → k < length states → depth j ≤ depth k
     pub near : followed < length states → (k : ℕ) → k < length states → depth k ≤ depth followed + 1

@@ -60,9 +60,9 @@ module _ {W T J : Type 0} (m : Machine W T J) where
     pub time : (w : W) (u : ℕ) (y : T) → m.time (m.turned w u y).world ≡ m.time w
     pub events : (s : Stand W T) (j : J) (t : ℕ) (d : Stand W T) → m.runs s.world t ≡ true → m.happens s j ≡ Some d → LeavesAlone s j t d
 
-abbrev pub owner_of : {J : Type 0} → Act J → Option ℕ
-owner_of (turn t) = Some t
-owner_of (event j) = None
+abbrev pub turn_owner : {J : Type 0} → Act J → Option ℕ
+turn_owner (turn t) = Some t
+turn_owner (event j) = None
 
 abbrev pub system_of : {W T J : Type 0} → Machine W T J → (Stand W T → List (Act J)) → System (Stand W T) (Act J)
-system_of m listed = record { start = m.start; step = stepped m; allowed = listed; owner = owner_of; quiet = is_quiet m }
+system_of m listed = record { start = m.start; step = stepped m; allowed = listed; owner = turn_owner; quiet = is_quiet m }
