@@ -102,11 +102,6 @@ pub record IsShapedAs (wanted : Shape) (command : Command) : Type 0 where
   pub shape : shape_of command ≡ wanted
   pub globals : (out-Command command).has_globals ≡ false
 
--- the command is another with its shape so changed, and has arguments that the commands below it take too only where the other had
-pub record IsReshaped (change : Shape → Shape) (old new : Command) : Type 0 where
-  pub shape : shape_of new ≡ change (shape_of old)
-  pub globals : (out-Command new).has_globals ≡ (out-Command old).has_globals
-
 -- a command with these arguments
 abbrev pub command_of : Text → List Rule → Shape
 command_of name rules = record (new_app name).top { rules = rules }
@@ -385,6 +380,10 @@ IsAnswer words (answer.Fault text) =
     ⊎ ((task : Task) × IsTask words task × AreAtOdds task (string_bytes text))
 
 -- ---- what private functions ask for
+
+-- the command, with an argument more that follows this rule
+abbrev pub with_rule : Rule → Shape → Shape
+with_rule rule command = record command { rules = command.rules ++ rule ∷ [] }
 
 -- the command, which says too whether it explains what is wrong
 abbrev pub with_explain : Shape → Shape

@@ -1,11 +1,14 @@
 //! The commands of the program and their arguments, as clap is told of them.
 
 ghost use Rattle.std.specs.Prelude.{◌≡◌, ◌<◌, ◌-◌, [], ◌∷◌, codes, false, true, IfOk};
-ghost use Rattle.clap.specs.Words.{app_of};
-ghost use Rattle.cml_arguments.specs.Words.{any_rule, command_of, commands, count_rule, depth_rule, explains, explore_command, file_command, file_rule, flag_rule, list_rule, option_rule, part_command, replay_command, run_command, runs_rule, shrink_command, step_command, trace_command, with_end, with_explain, with_finding, with_order, with_others, workers_rule, FollowsRule, IsShapedAs, IsReshaped};
+ghost use Rattle.clap.specs.Words.{app_of, with_subcommand, App, Rule, Shape};
+ghost use Rattle.cml_arguments.specs.Words.{any_rule, command_of, commands, count_rule, depth_rule, explains, explore_command, file_command, file_rule, flag_rule, list_rule, option_rule, part_command, replay_command, run_command, runs_rule, shrink_command, step_command, trace_command, with_end, with_explain, with_finding, with_order, with_others, with_rule, workers_rule, FollowsRule, IsShapedAs};
 
 use clap::{Arg, ArgAction, Command, value_parser};
 use std::alloc::{AllocError, Global};
+
+// A command, where there was memory to make it.
+type Made<'a> = Result<Command<'a>, AllocError>;
 
 // The most steps or items that an option counts.
 const MOST: i64 = 1_000_000_000;
@@ -26,83 +29,87 @@ const MOST_RUNS: i64 = 1_000_000;
 pub fn command<'a>(alloc: Global) -> Result<Command<'a>, AllocError>
     ensures { IfOk result (λ command. app_of command ≡ commands) }
 {
-    let trace = trace(alloc)?;
-    let check = file_alone(alloc, "check", "Checks a script")?;
-    let fmt = file_alone(alloc, "fmt", "Prints the forms of a text, each on a line")?;
-    let run = run(alloc)?;
-    let replay = replay(alloc)?;
-    let explain = explain_run(alloc)?;
     let program = Command::new(alloc, "cml")
         .about("Events of Concurrent ML: answers traces of commands, and checks and runs scripts")
-        .subcommand_required(true)
-        .subcommand(trace)?
-        .subcommand(check)?
-        .subcommand(fmt)?
-        .subcommand(run)?
-        .subcommand(replay)?
-        .subcommand(explain)?;
+        .subcommand_required(true);
+    let program = with_command(Ok(program), trace(alloc));
+    let program = with_command(program, file_alone(alloc, "check", "Checks a script"));
+    let program = with_command(
+        program,
+        file_alone(alloc, "fmt", "Prints the forms of a text, each on a line"),
+    );
+    let program = with_command(program, run(alloc));
+    let program = with_command(program, replay(alloc));
+    let program = with_command(program, explain_run(alloc));
     others(alloc, program)
 }
 
 // The program, with the commands that make a run again and again, or by hand.
-fn others<'a>(alloc: Global, program: Command<'a>) -> Result<Command<'a>, AllocError>
-    ensures { IfOk result (λ command. app_of command ≡ with_others (app_of program.entry)) }
+fn others<'a>(alloc: Global, program: Made<'a>) -> Made<'a>
+    ensures { (app : App) → IfOk program.entry (λ old. app_of old ≡ app) → IfOk result (λ new. app_of new ≡ with_others app) }
 {
-    let explore = explore(alloc)?;
-    let shrink = shrink(alloc)?;
-    let draw = draw(alloc)?;
-    let step = step(alloc)?;
-    program
-        .subcommand(explore)?
-        .subcommand(shrink)?
-        .subcommand(draw)?
-        .subcommand(step)
+    let program = with_command(program, explore(alloc));
+    let program = with_command(program, shrink(alloc));
+    let program = with_command(program, draw(alloc));
+    with_command(program, step(alloc))
+}
+
+// The program, with one command more.
+fn with_command<'a>(program: Made<'a>, command: Made<'a>) -> Made<'a>
+    ensures { (app : App) (shape : Shape) → IfOk program.entry (λ old. app_of old ≡ app) → IfOk command.entry (IsShapedAs shape)
+        → IfOk result (λ new. app_of new ≡ with_subcommand app shape) }
+{
+    program?.subcommand(command?)
+}
+
+// The command, with one argument more.
+fn with_arg<'a>(command: Made<'a>, arg: Arg<'a>) -> Made<'a>
+    ensures { (rule : Rule) (shape : Shape) → FollowsRule rule arg.entry → IfOk command.entry (IsShapedAs shape) → IfOk result (IsShapedAs (with_rule rule shape)) }
+{
+    command?.arg(arg)
 }
 
 // The command that answers a trace.
-fn trace<'a>(alloc: Global) -> Result<Command<'a>, AllocError>
+fn trace<'a>(alloc: Global) -> Made<'a>
     ensures { IfOk result (IsShapedAs trace_command) }
 {
+    let command = Command::new(alloc, "trace").about("Answers the commands on standard input");
     let live = flag_of(alloc, "live").help("Answers each line as soon as it has been read");
-    let command = Command::new(alloc, "trace")
-        .about("Answers the commands on standard input")
-        .arg(live)?;
-    explaining(alloc, command)
+    explaining(alloc, with_arg(Ok(command), live))
 }
 
 // The command that runs a script.
-fn run<'a>(alloc: Global) -> Result<Command<'a>, AllocError>
+fn run<'a>(alloc: Global) -> Made<'a>
     ensures { IfOk result (IsShapedAs run_command) }
 {
-    let workers = workers(alloc).help("How many workers run its threads, 1 to 64 [default: 1]");
     let steps = count(alloc, "steps", "B").help(
         "How many steps it may take, 1 to 1000000000 [default: 1000000]",
     );
+    let workers = workers(alloc).help("How many workers run its threads, 1 to 64 [default: 1]");
     let seed = seed(alloc).help("Draws the choices from this number");
     let draw = option(alloc, "draw", "FILE").help("Saves a picture of the run");
-    let own = vec![in alloc; workers, steps, seed, watch(alloc), record(alloc), draw]?;
-    let command = on_file(alloc, "run", "Runs a script")?.args(own)?;
-    let ended = ending(alloc, command)?;
-    explaining(alloc, ended)
+    let command = on_file(alloc, "run", "Runs a script");
+    let command = with_arg(command, workers);
+    let command = with_arg(command, steps);
+    let command = with_arg(command, seed);
+    let command = with_arg(command, watch(alloc));
+    let command = with_arg(command, record(alloc));
+    let command = with_arg(command, draw);
+    explaining(alloc, ending(alloc, command))
 }
 
 // The command that runs a script again.
-fn replay<'a>(alloc: Global) -> Result<Command<'a>, AllocError>
+fn replay<'a>(alloc: Global) -> Made<'a>
     ensures { IfOk result (IsShapedAs replay_command) }
 {
-    let own = vec![in alloc; file(alloc, "SCHEDULE"), watch(alloc)]?;
-    let command = on_file(
-        alloc,
-        "replay",
-        "Runs a script by a schedule that was saved",
-    )?
-    .args(own)?;
-    let ended = ending(alloc, command)?;
-    explaining(alloc, ended)
+    let about = "Runs a script by a schedule that was saved";
+    let command = with_arg(on_file(alloc, "replay", about), file(alloc, "SCHEDULE"));
+    let command = with_arg(command, watch(alloc));
+    explaining(alloc, ending(alloc, command))
 }
 
 // The command that says what happens in a run.
-fn explain_run<'a>(alloc: Global) -> Result<Command<'a>, AllocError>
+fn explain_run<'a>(alloc: Global) -> Made<'a>
     ensures { IfOk result (IsShapedAs (part_command (codes "explain"))) }
 {
     part_of_run(
@@ -115,7 +122,7 @@ fn explain_run<'a>(alloc: Global) -> Result<Command<'a>, AllocError>
 }
 
 // The command that draws what happens in a run.
-fn draw<'a>(alloc: Global) -> Result<Command<'a>, AllocError>
+fn draw<'a>(alloc: Global) -> Made<'a>
     ensures { IfOk result (IsShapedAs (part_command (codes "draw"))) }
 {
     part_of_run(
@@ -134,17 +141,16 @@ fn part_of_run<'a>(
     about: &'a str,
     first: &'a str,
     last: &'a str,
-) -> Result<Command<'a>, AllocError>
+) -> Made<'a>
     ensures { IfOk result (IsShapedAs (part_command name.now)) }
 {
-    let from = count(alloc, "from", "I").help(first);
-    let to = count(alloc, "to", "J").help(last);
-    let own = vec![in alloc; file(alloc, "SCHEDULE"), from, to]?;
-    on_file(alloc, name, about)?.args(own)
+    let command = with_arg(on_file(alloc, name, about), file(alloc, "SCHEDULE"));
+    let command = with_arg(command, count(alloc, "from", "I").help(first));
+    with_arg(command, count(alloc, "to", "J").help(last))
 }
 
 // The command that runs a script many times.
-fn explore<'a>(alloc: Global) -> Result<Command<'a>, AllocError>
+fn explore<'a>(alloc: Global) -> Made<'a>
     ensures { IfOk result (IsShapedAs explore_command) }
 {
     let runs = runs(alloc).help("How many runs, 1 to 1000000 [default: 100]");
@@ -155,31 +161,28 @@ fn explore<'a>(alloc: Global) -> Result<Command<'a>, AllocError>
         "How many steps each may take, 1 to 1000000000 [default: 1000000]",
     );
     let workers = workers(alloc).help("How many workers make the runs, 1 to 64 [default: 1]");
-    let own = vec![in alloc; runs, seed, steps, workers]?;
-    let counted = on_file(
-        alloc,
-        "explore",
-        "Runs a script many times, and says how the runs end",
-    )?
-    .args(own)?;
-    let ordered = ordering(alloc, counted)?;
-    finding(alloc, ordered)
+    let about = "Runs a script many times, and says how the runs end";
+    let command = with_arg(on_file(alloc, "explore", about), runs);
+    let command = with_arg(command, seed);
+    let command = with_arg(command, steps);
+    let command = with_arg(command, workers);
+    finding(alloc, ordering(alloc, command))
 }
 
 // The command, which says too how the order of the turns comes about.
-fn ordering<'a>(alloc: Global, command: Command<'a>) -> Result<Command<'a>, AllocError>
-    ensures { IfOk result (IsReshaped with_order command.entry) }
+fn ordering<'a>(alloc: Global, command: Made<'a>) -> Made<'a>
+    ensures { (shape : Shape) → IfOk command.entry (IsShapedAs shape) → IfOk result (IsShapedAs (with_order shape)) }
 {
     let turns = flag_of(alloc, "turns").help("Draws the order of the threads' turns too");
     let priority = priority(alloc).help(
         "Gives the turns by priorities, which are drawn and change at D - 1 points, 1 to 64",
     );
-    command.args(vec![in alloc; turns, priority]?)
+    with_arg(with_arg(command, turns), priority)
 }
 
 // The command, which says too what is made of the runs.
-fn finding<'a>(alloc: Global, command: Command<'a>) -> Result<Command<'a>, AllocError>
-    ensures { IfOk result (IsReshaped with_finding command.entry) }
+fn finding<'a>(alloc: Global, command: Made<'a>) -> Made<'a>
+    ensures { (shape : Shape) → IfOk command.entry (IsShapedAs shape) → IfOk result (IsShapedAs (with_finding shape)) }
 {
     let save = option(alloc, "save", "PREFIX").help(
         "Saves the shortest schedule of each kind of end, as PREFIX-1.schedule and so on",
@@ -187,64 +190,59 @@ fn finding<'a>(alloc: Global, command: Command<'a>) -> Result<Command<'a>, Alloc
     let until = option(alloc, "until", "WORD").help(
         "Stops at the first run of this kind: waits, fault or budget",
     );
-    command.args(vec![in alloc; save, servers(alloc), until]?)
+    with_arg(with_arg(with_arg(command, save), servers(alloc)), until)
 }
 
 // The command that looks for a shorter schedule.
-fn shrink<'a>(alloc: Global) -> Result<Command<'a>, AllocError>
+fn shrink<'a>(alloc: Global) -> Made<'a>
     ensures { IfOk result (IsShapedAs shrink_command) }
 {
+    let about = "Looks for a shorter schedule of a run that ends alike";
     let tries = count(alloc, "tries", "N").help(
         "How many replays it may take, 1 to 1000000000 [default: 10000]",
     );
-    let own = vec![in alloc; file(alloc, "SCHEDULE"), tries]?;
-    on_file(
-        alloc,
-        "shrink",
-        "Looks for a shorter schedule of a run that ends alike",
-    )?
-    .args(own)
+    let command = with_arg(on_file(alloc, "shrink", about), file(alloc, "SCHEDULE"));
+    with_arg(command, tries)
 }
 
 // The command that runs a script by hand.
-fn step<'a>(alloc: Global) -> Result<Command<'a>, AllocError>
+fn step<'a>(alloc: Global) -> Made<'a>
     ensures { IfOk result (IsShapedAs step_command) }
 {
     let about = "Runs a script by hand: shows what can happen, and asks what does";
-    on_file(alloc, "step", about)?.arg(record(alloc))
+    with_arg(on_file(alloc, "step", about), record(alloc))
 }
 
 // A command that takes a file alone.
-fn file_alone<'a>(alloc: Global, name: &'a str, about: &'a str) -> Result<Command<'a>, AllocError>
+fn file_alone<'a>(alloc: Global, name: &'a str, about: &'a str) -> Made<'a>
     ensures { IfOk result (IsShapedAs (file_command name.now)) }
 {
-    let command = on_file(alloc, name, about)?;
-    explaining(alloc, command)
+    explaining(alloc, on_file(alloc, name, about))
 }
 
 // The command, which says too whether it explains what is wrong.
-fn explaining<'a>(alloc: Global, command: Command<'a>) -> Result<Command<'a>, AllocError>
-    ensures { IfOk result (IsReshaped with_explain command.entry) }
+fn explaining<'a>(alloc: Global, command: Made<'a>) -> Made<'a>
+    ensures { (shape : Shape) → IfOk command.entry (IsShapedAs shape) → IfOk result (IsShapedAs (with_explain shape)) }
 {
     let explain = flag_of(alloc, "explain").help(
         "Explains what is wrong, and where [default: on a terminal]",
     );
     let plain = flag_of(alloc, "plain").help("Explains nothing, on a terminal too");
-    command.args(vec![in alloc; explain, plain]?)
+    with_arg(with_arg(command, explain), plain)
 }
 
 // The command, which says too which threads may be left at the end.
-fn ending<'a>(alloc: Global, command: Command<'a>) -> Result<Command<'a>, AllocError>
-    ensures { IfOk result (IsReshaped with_end command.entry) }
+fn ending<'a>(alloc: Global, command: Made<'a>) -> Made<'a>
+    ensures { (shape : Shape) → IfOk command.entry (IsShapedAs shape) → IfOk result (IsShapedAs (with_end shape)) }
 {
     let strict = flag_of(alloc, "strict").help(
         "Ends with status 6 where a thread is left waiting, or ended at a fault",
     );
-    command.args(vec![in alloc; strict, servers(alloc)]?)
+    with_arg(with_arg(command, strict), servers(alloc))
 }
 
 // A command on a file.
-fn on_file<'a>(alloc: Global, name: &'a str, about: &'a str) -> Result<Command<'a>, AllocError>
+fn on_file<'a>(alloc: Global, name: &'a str, about: &'a str) -> Made<'a>
     ensures { IfOk result (IsShapedAs (command_of name.now (file_rule (codes "FILE") ∷ []))) }
 {
     let file = file(alloc, "FILE");

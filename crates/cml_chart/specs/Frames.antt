@@ -38,7 +38,7 @@ widened columns m =
     slice_set columns seat (max (unwrap_or (slice_get columns seat) 0) (seat_room m.shape m.words))
 
 -- the width of the column of each thread, by its number
-abbrev pub columns_of : ℕ → List ChartMark → List ℕ
+unfoldable pub columns_of : ℕ → List ChartMark → List ℕ
 columns_of threads marks = fold widened (replicate threads 0) marks
 
 -- what stands in the margin beside a mark: the number of its item, and of a move of the clock the words
@@ -53,7 +53,7 @@ abbrev pub wider_margin : ℕ → ChartMark → ℕ
 wider_margin margin m = max margin (16 + 7 * cells (note_of m))
 
 -- how wide the margin is
-abbrev pub margin_of : List ChartMark → ℕ
+unfoldable pub margin_of : List ChartMark → ℕ
 margin_of marks = fold wider_margin 16 marks
 
 -- where columns of these widths begin that stand side by side from there on, and where the last one ends
@@ -74,7 +74,7 @@ begun_at shape thread other level tops = tops
 abbrev pub with_top : List ℕ → ChartMark → List ℕ
 with_top tops m = begun_at m.shape m.thread m.other (level_of m) tops
 
-abbrev pub tops_of : ℕ → List ChartMark → List ℕ
+unfoldable pub tops_of : ℕ → List ChartMark → List ℕ
 tops_of threads marks = fold with_top (replicate threads 0) marks
 
 -- where the columns begin, where the lines of threads begin, the margin, and how wide and high the picture is
@@ -89,7 +89,7 @@ pub record ChartFrame : Type 0 where
 abbrev pub line_from_left : List ℕ → ℕ → ℕ
 line_from_left places thread = unwrap_or (slice_get places thread) 0
 
-abbrev pub edges_of : ℕ → List ChartMark → List ℕ
+unfoldable pub edges_of : ℕ → List ChartMark → List ℕ
 edges_of threads marks = edges_from (margin_of marks + 10) (columns_of threads marks)
 
 -- the frame of a picture of so many threads, with these marks and of this height

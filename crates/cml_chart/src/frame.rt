@@ -82,6 +82,7 @@ fn widen(columns: &mut [u16], mark: &Mark)
 }
 
 // The widths of the columns.
+#[tactic(auto, unfolding(crate::specs::Frames::columns_of))]
 fn columns_of(alloc: Global, threads: u32, marks: &[Mark]) -> Result<Vec<u16>, AllocError>
     ensures columns { IfOk result (λ columns. columns.items
         ≡ spec.columns_of threads (map plain_mark marks.now)) }
@@ -130,6 +131,7 @@ fn wider_margin(alloc: Global, margin: u16, mark: &Mark) -> Result<u16, AllocErr
 }
 
 // How wide the margin is.
+#[tactic(auto, unfolding(crate::specs::Frames::margin_of))]
 fn margin_of(alloc: Global, marks: &[Mark]) -> Result<u16, AllocError>
     ensures margin { IfOk result (λ margin. margin ≡ spec.margin_of (map plain_mark marks.now)) }
     ensures small { IfOk result (λ margin. margin ≤ 716) }
@@ -186,6 +188,7 @@ fn begin_line(tops: &mut [u64], mark: &Mark)
 }
 
 // Where the lines of threads begin.
+#[tactic(auto, unfolding(crate::specs::Frames::tops_of))]
 fn tops_of(alloc: Global, threads: u32, marks: &[Mark]) -> Result<Vec<u64>, AllocError>
     ensures { IfOk result (λ tops. tops.items ≡ spec.tops_of threads (map plain_mark marks.now)) }
 {
@@ -203,6 +206,22 @@ pub(crate) fn line_from_left(places: &[u64], thread: u32) -> u64
     places.get(thread as usize).copied().unwrap_or(0)
 }
 
+// Where the columns begin beside this margin, and where the last one ends.
+#[tactic(auto, unfolding(crate::specs::Frames::edges_of))]
+fn edges_of(
+    alloc: Global,
+    threads: u32,
+    marks: &[Mark],
+    margin: u16,
+) -> Result<Vec<u64>, AllocError>
+    requires margin { margin ≡ spec.margin_of (map plain_mark marks.now) }
+    requires small { margin ≤ 716 }
+    ensures { IfOk result (λ edges. edges.items ≡ spec.edges_of threads (map plain_mark marks.now)) }
+{
+    let columns = columns_of(alloc, threads, marks)?;
+    edges_from(alloc, u64::from(margin) + 10, columns.as_slice())
+}
+
 /// The frame of a picture of so many threads, with these marks and of this height.
 pub(crate) fn frame_of(
     alloc: Global,
@@ -213,15 +232,14 @@ pub(crate) fn frame_of(
     ensures { IfOk result (λ frame. chart_frame frame
         ≡ spec.frame_of threads (map plain_mark marks.now) height) }
 {
-    let margin = u64::from(margin_of(alloc, marks)?);
-    let columns = columns_of(alloc, threads, marks)?;
-    let edges = edges_from(alloc, margin + 10, columns.as_slice())?;
+    let margin = margin_of(alloc, marks)?;
+    let edges = edges_of(alloc, threads, marks, margin)?;
     let tops = tops_of(alloc, threads, marks)?;
     let width = line_from_left(edges.as_slice(), threads);
     Ok(Frame {
         edges,
         tops,
-        margin,
+        margin: u64::from(margin),
         width,
         height: u64::from(height),
     })

@@ -90,18 +90,18 @@ laid_all whole code xs at next le all =
 pub laid_one : (old new : List Instr) (i : Instr) → new ≡ old ++ i ∷ [] → map plain_instr new ≡ map plain_instr old ++ plain_instr i ∷ []
 laid_one old new i e = ap (map plain_instr) e ∙ map_push plain_instr old i
 
-pub laid_if : (old c1 c2 c3 : List Instr) (i : Instr) (e : PlainExpr ℕ) (a b : PlainStmts ℕ) (next holds fails : ℕ) →
-    c1 ≡ old ++ i ∷ [] → plain_instr i ≡ if_then e holds fails →
-    holds ≡ entry (length old + 1) a next → fails ≡ entry (length old + 1 + stmts_count a) b next →
+-- what is laid for a choice: its test, and then one branch and the other
+pub laid_if : (old c1 c2 c3 : List Instr) (e : PlainExpr ℕ) (a b : PlainStmts ℕ) (next : ℕ) →
+    map plain_instr c1 ≡ map plain_instr old ++ if_then e (entry (length old + 1) a next) (entry (length old + 1 + stmts_count a) b next) ∷ [] →
     map plain_instr c2 ≡ map plain_instr c1 ++ stmts_code (length c1) a next →
     map plain_instr c3 ≡ map plain_instr c2 ++ stmts_code (length c2) b next →
     map plain_instr c3 ≡ map plain_instr old ++ stmt_code (length old) (if_so e a b) next
-laid_if old c1 c2 c3 i e a b next holds fails put is on_holds on_fails first second =
+laid_if old c1 c2 c3 e a b next put first second =
     let O = map plain_instr old in
     let base = length old + 1 in
     let mid = base + stmts_count a in
-    let m : map plain_instr c1 ≡ O ++ if_then e holds fails ∷ [] = laid_one old c1 i put ∙ ap (λ j. O ++ j ∷ []) is in
-    let n : length c1 ≡ base = laid_length old c1 (if_then e holds fails ∷ []) m in
+    let i = if_then e (entry base a next) (entry mid b next) in
+    let n : length c1 ≡ base = laid_length old c1 (i ∷ []) put in
     let k : length c2 ≡ mid = laid_length c1 c2 (stmts_code (length c1) a next) first ∙ ap (λ x. length c1 + x) (length_stmts (length c1) a next) ∙ ap (λ x. x + stmts_count a) n in
     let A = stmts_code base a next in
     let B = stmts_code mid b next in
@@ -109,24 +109,22 @@ laid_if old c1 c2 c3 i e a b next holds fails put is on_holds on_fails first sec
     ∙ ap (λ x. map plain_instr c2 ++ stmts_code x b next) k
     ∙ ap (λ l. l ++ B) first
     ∙ ap (λ x. (map plain_instr c1 ++ stmts_code x a next) ++ B) n
-    ∙ ap (λ l. (l ++ A) ++ B) m
-    ∙ ap (λ h. ((O ++ if_then e h fails ∷ []) ++ A) ++ B) on_holds
-    ∙ ap (λ h. ((O ++ if_then e (entry base a next) h ∷ []) ++ A) ++ B) on_fails
-    ∙ ap (λ l. l ++ B) (append_assoc O (if_then e (entry base a next) (entry mid b next) ∷ []) A)
-    ∙ append_assoc O (if_then e (entry base a next) (entry mid b next) ∷ A) B
+    ∙ ap (λ l. (l ++ A) ++ B) put
+    ∙ ap (λ l. l ++ B) (append_assoc O (i ∷ []) A)
+    ∙ append_assoc O (i ∷ A) B
 
-pub laid_while : (old c1 c2 : List Instr) (i : Instr) (e : PlainExpr ℕ) (a : PlainStmts ℕ) (next here body : ℕ) →
-    c1 ≡ old ++ i ∷ [] → plain_instr i ≡ while_then e body next → here ≡ length old → body ≡ entry (length old + 1) a (length old) →
+-- what is laid for a loop: its test, and then its statements
+pub laid_while : (old c1 c2 : List Instr) (e : PlainExpr ℕ) (a : PlainStmts ℕ) (next here : ℕ) → here ≡ length old →
+    map plain_instr c1 ≡ map plain_instr old ++ while_then e (entry (length old + 1) a (length old)) next ∷ [] →
     map plain_instr c2 ≡ map plain_instr c1 ++ stmts_code (length c1) a here →
     map plain_instr c2 ≡ map plain_instr old ++ stmt_code (length old) (while_so e a) next
-laid_while old c1 c2 i e a next here body put is at on_body first =
+laid_while old c1 c2 e a next here at put first =
     let O = map plain_instr old in
     let base = length old + 1 in
-    let m : map plain_instr c1 ≡ O ++ while_then e body next ∷ [] = laid_one old c1 i put ∙ ap (λ j. O ++ j ∷ []) is in
-    let n : length c1 ≡ base = laid_length old c1 (while_then e body next ∷ []) m in
+    let i = while_then e (entry base a (length old)) next in
+    let n : length c1 ≡ base = laid_length old c1 (i ∷ []) put in
     first
     ∙ ap (λ h. map plain_instr c1 ++ stmts_code (length c1) a h) at
     ∙ ap (λ x. map plain_instr c1 ++ stmts_code x a (length old)) n
-    ∙ ap (λ l. l ++ stmts_code base a (length old)) m
-    ∙ ap (λ h. (O ++ while_then e h next ∷ []) ++ stmts_code base a (length old)) on_body
-    ∙ append_assoc O (while_then e (entry base a (length old)) next ∷ []) (stmts_code base a (length old))
+    ∙ ap (λ l. l ++ stmts_code base a (length old)) put
+    ∙ append_assoc O (i ∷ []) (stmts_code base a (length old))

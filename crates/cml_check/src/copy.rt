@@ -1,10 +1,13 @@
 //! Copies of expressions and effects.
 
-ghost use Rattle.std.specs.Prelude.{◌≡◌, IfOk};
+ghost use Rattle.std.specs.{Prelude.{◌≡◌, IfOk}, Arc.{arc_str_bytes}};
 ghost use Rattle.cml_check.specs.StmtViews.{plain_effect, plain_source};
+ghost use Rattle.cml_check.specs.Syntax as syntax;
 
+use crate::compound::{binary, unary, wrap};
 use crate::syntax::{Effect, Expr, ExprKind, Exprs, Source};
 use std::alloc::{AllocError, Global};
+use std::sync::ArcStr;
 
 impl Expr {
     // The same expression once more.
@@ -12,27 +15,40 @@ impl Expr {
     pub(crate) fn copy(&self, alloc: Global) -> Result<Expr, AllocError>
         ensures { IfOk result (λ e. e ≡ self.now) }
     {
-        let kind = match &self.kind {
-            ExprKind::Constant(constant) => ExprKind::Constant(*constant),
-            ExprKind::Number(number) => ExprKind::Number(*number),
-            ExprKind::Text(text) => ExprKind::Text(text.clone()?),
-            ExprKind::Variable(slot) => ExprKind::Variable(*slot),
-            ExprKind::Unary(op, e) => ExprKind::Unary(*op, Box::new(alloc, e.copy(alloc)?)?),
-            ExprKind::Binary(op, d, e) => {
-                let d = Box::new(alloc, d.copy(alloc)?)?;
-                let e = Box::new(alloc, e.copy(alloc)?)?;
-                ExprKind::Binary(*op, d, e)
-            }
-            ExprKind::Choose(es) => ExprKind::Choose(es.copy(alloc)?),
-            ExprKind::Wrap(e, func, es) => {
-                let e = Box::new(alloc, e.copy(alloc)?)?;
-                ExprKind::Wrap(e, *func, es.copy(alloc)?)
-            }
-            ExprKind::Guard(func, es) => ExprKind::Guard(*func, es.copy(alloc)?),
-            ExprKind::WithNack(func, es) => ExprKind::WithNack(*func, es.copy(alloc)?),
-        };
-        Ok(Expr { kind })
+        match &self.kind {
+            ExprKind::Constant(constant) => Ok(Expr {
+                kind: ExprKind::Constant(*constant),
+            }),
+            ExprKind::Number(number) => Ok(Expr {
+                kind: ExprKind::Number(*number),
+            }),
+            ExprKind::Text(text) => copy_text(text),
+            ExprKind::Variable(slot) => Ok(Expr {
+                kind: ExprKind::Variable(*slot),
+            }),
+            ExprKind::Unary(op, e) => unary(alloc, *op, e.copy(alloc)?),
+            ExprKind::Binary(op, d, e) => binary(alloc, *op, d.copy(alloc)?, e.copy(alloc)?),
+            ExprKind::Choose(es) => Ok(Expr {
+                kind: ExprKind::Choose(es.copy(alloc)?),
+            }),
+            ExprKind::Wrap(e, func, es) => wrap(alloc, e.copy(alloc)?, *func, es.copy(alloc)?),
+            ExprKind::Guard(func, es) => Ok(Expr {
+                kind: ExprKind::Guard(*func, es.copy(alloc)?),
+            }),
+            ExprKind::WithNack(func, es) => Ok(Expr {
+                kind: ExprKind::WithNack(*func, es.copy(alloc)?),
+            }),
+        }
     }
+}
+
+// The same text once more.
+fn copy_text(text: &ArcStr) -> Result<Expr, AllocError>
+    ensures { IfOk result (λ e. e ≡ syntax.text (arc_str_bytes text.now)) }
+{
+    Ok(Expr {
+        kind: ExprKind::Text(text.clone()?),
+    })
 }
 
 impl Exprs {

@@ -8,6 +8,7 @@ ghost use Rattle.cml_check.specs.{ExpressionParts.{unary_in, binary_in, wrap_in,
 ghost use Rattle.cml_check.specs.{Returned.{FindsExpr, ExprIsInOrder}, Words.{word_of as word_spelled}};
 ghost use Rattle.cml_check.specs.declared.word.Word.TheVariants as words;
 
+use crate::compound;
 use crate::fault::{CheckFault, CheckKind, fault_at};
 use crate::head::{Heads, function};
 use crate::names::Names;
@@ -114,11 +115,7 @@ fn unary(
     let [p] = behind else {
         return Err(fault_at(CheckKind::Form, form));
     };
-    let value = expression(alloc, heads, names, p)?;
-    let value = Box::new(alloc, value)?;
-    Ok(Expr {
-        kind: ExprKind::Unary(operator, value),
-    })
+    Ok(compound::unary(alloc, operator, expression(alloc, heads, names, p)?)?)
 }
 
 // An operation on two values.
@@ -141,11 +138,7 @@ fn binary(
     };
     let first = expression(alloc, heads, names, p)?;
     let second = expression(alloc, heads, names, q)?;
-    let first = Box::new(alloc, first)?;
-    let second = Box::new(alloc, second)?;
-    Ok(Expr {
-        kind: ExprKind::Binary(operator, first, second),
-    })
+    Ok(compound::binary(alloc, operator, first, second)?)
 }
 
 // A choice of events.
@@ -186,10 +179,7 @@ fn wrap(
     let event = expression(alloc, heads, names, event)?;
     let number = function_for(heads, name, captured, 1)?;
     let captured = expressions(alloc, heads, names, captured)?;
-    let event = Box::new(alloc, event)?;
-    Ok(Expr {
-        kind: ExprKind::Wrap(event, number, captured),
-    })
+    Ok(compound::wrap(alloc, event, number, captured)?)
 }
 
 // An event that a function makes.

@@ -1,11 +1,11 @@
 //! Statements laid flat.
 
-ghost use Rattle.std.specs.Prelude.{◌≡◌, ◌+◌, ◌++◌, drop, length, map, IfOk};
-ghost use Rattle.cml_check.specs.{Sizes.{stmt_count, stmts_count}, Syntax.{stmts}, Layout.{stmt_code, stmts_code, code_of}, InstrViews.{plain_instr}};
+ghost use Rattle.std.specs.Prelude.{◌≡◌, ◌+◌, [], ◌∷◌, ◌++◌, drop, length, map, IfOk};
+ghost use Rattle.cml_check.specs.{Sizes.{stmt_count, stmts_count}, Syntax.{stmts}, Layout.{stmt_code, stmts_code, code_of}, InstrViews.{plain_instr}, StmtViews.{plain_effect, plain_source}};
 ghost use Rattle.cml_check.specs.Layout as layout;
 
 use crate::instr::Instr;
-use crate::syntax::{Block, Stmt, StmtKind};
+use crate::syntax::{Block, Effect, Expr, Source, Stmt, StmtKind};
 use std::alloc::{AllocError, Global};
 
 // The sum of two places. No text has as many statements as there are places, so it is always one.
@@ -83,9 +83,109 @@ fn lay_block(
     Ok(())
 }
 
+// Lays a `let` of a slot behind the code.
+#[tactic(auto, using(crate::proofs::Laid::laid_one))]
+fn lay_let(
+    alloc: Global,
+    code: &mut Vec<Instr>,
+    slot: usize,
+    source: &Source,
+    next: usize,
+) -> Result<(), AllocError>
+    ensures { IfOk result (λ _. map plain_instr code.new.items
+        ≡ map plain_instr code.old.items ++ layout.let_then slot (plain_source source.now) next ∷ []) }
+{
+    code.push(Instr::Let(slot, source.copy(alloc)?, next))?;
+    Ok(())
+}
+
+// Lays a new value for a slot behind the code.
+#[tactic(auto, using(crate::proofs::Laid::laid_one))]
+fn lay_set(
+    alloc: Global,
+    code: &mut Vec<Instr>,
+    slot: usize,
+    e: &Expr,
+    next: usize,
+) -> Result<(), AllocError>
+    ensures { IfOk result (λ _. map plain_instr code.new.items
+        ≡ map plain_instr code.old.items ++ layout.set_then slot e.now next ∷ []) }
+{
+    code.push(Instr::Set(slot, e.copy(alloc)?, next))?;
+    Ok(())
+}
+
+// Lays an effect behind the code.
+#[tactic(auto, using(crate::proofs::Laid::laid_one))]
+fn lay_do(
+    alloc: Global,
+    code: &mut Vec<Instr>,
+    effect: &Effect,
+    next: usize,
+) -> Result<(), AllocError>
+    ensures { IfOk result (λ _. map plain_instr code.new.items
+        ≡ map plain_instr code.old.items ++ layout.do_then (plain_effect effect.now) next ∷ []) }
+{
+    code.push(Instr::Do(effect.copy(alloc)?, next))?;
+    Ok(())
+}
+
+// Lays the test of a choice behind the code, not its branches, which are laid after it.
+#[tactic(auto, using(crate::proofs::Laid::laid_one))]
+fn lay_if(
+    alloc: Global,
+    code: &mut Vec<Instr>,
+    test: &Expr,
+    yes: &Block,
+    no: &Block,
+    next: usize,
+) -> Result<(), AllocError>
+    ensures { let base = length code.old.items + 1 in
+        let on_yes = layout.entry base yes.now next in
+        let on_no = layout.entry (base + stmts_count yes.now) no.now next in
+        IfOk result (λ _. map plain_instr code.new.items
+        ≡ map plain_instr code.old.items ++ layout.if_then test.now on_yes on_no ∷ []) }
+{
+    let base = code.len() + 1;
+    let on_yes = entry(base, yes, next);
+    let on_no = entry(sum(base, yes.count()?)?, no, next);
+    code.push(Instr::If(test.copy(alloc)?, on_yes, on_no))?;
+    Ok(())
+}
+
+// Lays the test of a loop behind the code, not its statements, which are laid after it.
+#[tactic(auto, using(crate::proofs::Laid::laid_one))]
+fn lay_while(
+    alloc: Global,
+    code: &mut Vec<Instr>,
+    test: &Expr,
+    body: &Block,
+    next: usize,
+) -> Result<(), AllocError>
+    ensures { let here = length code.old.items in
+        let inside = layout.entry (here + 1) body.now here in
+        IfOk result (λ _. map plain_instr code.new.items
+        ≡ map plain_instr code.old.items ++ layout.while_then test.now inside next ∷ []) }
+{
+    let here = code.len();
+    let inside = entry(here + 1, body, here);
+    code.push(Instr::While(test.copy(alloc)?, inside, next))?;
+    Ok(())
+}
+
+// Lays the end of a function behind the code.
+#[tactic(auto, using(crate::proofs::Laid::laid_one))]
+fn lay_return(alloc: Global, code: &mut Vec<Instr>, e: &Expr) -> Result<(), AllocError>
+    ensures { IfOk result (λ _. map plain_instr code.new.items
+        ≡ map plain_instr code.old.items ++ layout.return_then e.now ∷ []) }
+{
+    code.push(Instr::Return(e.copy(alloc)?))?;
+    Ok(())
+}
+
 // Lays the statement behind the code; the place after it is `next`.
 #[cycle(lay)]
-#[tactic(auto, using(crate::proofs::Laid::laid_one, crate::proofs::Laid::laid_if, crate::proofs::Laid::laid_while))]
+#[tactic(auto, using(crate::proofs::Laid::laid_if, crate::proofs::Laid::laid_while))]
 fn lay_stmt(
     alloc: Global,
     code: &mut Vec<Instr>,
@@ -97,43 +197,20 @@ fn lay_stmt(
         ++ stmt_code (length code.old.items) stmt.now next) }
 {
     match &stmt.kind {
-        StmtKind::Let(slot, source) => {
-            let source = source.copy(alloc)?;
-            code.push(Instr::Let(*slot, source, next))?;
-            Ok(())
-        }
-        StmtKind::Set(slot, e) => {
-            let e = e.copy(alloc)?;
-            code.push(Instr::Set(*slot, e, next))?;
-            Ok(())
-        }
-        StmtKind::Do(effect) => {
-            let effect = effect.copy(alloc)?;
-            code.push(Instr::Do(effect, next))?;
-            Ok(())
-        }
+        StmtKind::Let(slot, source) => lay_let(alloc, code, *slot, source, next),
+        StmtKind::Set(slot, e) => lay_set(alloc, code, *slot, e, next),
+        StmtKind::Do(effect) => lay_do(alloc, code, effect, next),
         StmtKind::If(test, yes, no) => {
-            let test = test.copy(alloc)?;
-            let base = code.len() + 1;
-            let on_yes = entry(base, yes, next);
-            let on_no = entry(sum(base, yes.count()?)?, no, next);
-            code.push(Instr::If(test, on_yes, on_no))?;
+            lay_if(alloc, code, test, yes, no, next)?;
             lay_block(alloc, code, yes, next)?;
-            lay_block(alloc, code, no, next)?;
-            Ok(())
+            lay_block(alloc, code, no, next)
         }
         StmtKind::While(test, body) => {
-            let test = test.copy(alloc)?;
             let here = code.len();
-            let inside = entry(here + 1, body, here);
-            code.push(Instr::While(test, inside, next))?;
+            lay_while(alloc, code, test, body, next)?;
             lay_block(alloc, code, body, here)
         }
-        StmtKind::Return(e) => {
-            let e = e.copy(alloc)?;
-            code.push(Instr::Return(e))?;
-            Ok(())
-        }
+        StmtKind::Return(e) => lay_return(alloc, code, e),
     }
 }
 

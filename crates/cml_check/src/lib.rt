@@ -2,6 +2,7 @@
 #![tactic(auto)]
 
 mod checker;
+mod compound;
 mod copy;
 mod effect;
 mod expression;

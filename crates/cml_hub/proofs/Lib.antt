@@ -10,6 +10,7 @@ pub mod Alarms
 pub mod Performing
 pub mod Standing
 pub mod Turning
+pub mod Adding
 pub mod Meeting
 pub mod Settled
 pub mod Opening

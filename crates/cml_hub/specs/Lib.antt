@@ -7,6 +7,7 @@ pub mod Asking
 pub mod Settling
 pub mod Deeds
 pub mod Courses
+pub mod Trails
 pub mod CourseCodes
 pub mod ReadyQueue
 pub mod MarkCodes

@@ -1,7 +1,7 @@
 //! The course of a program: its schedule so far, and where that has led.
 
-ghost use Rattle.std.specs.Prelude.{◌≡◌, ◌↔◌, ◌<◌, ◌≤◌, ◌+◌, ◌++◌, true, [], Some, IfOk, IfErr, IfSome, OnOk, OnErr, IsTrue, MatchOption, slice_get, length, map, not};
-ghost use Rattle.std.specs.{List.{All}, Option.{option_copied}, String.{string_bytes, string_len, string_capacity}};
+ghost use Rattle.std.specs.Prelude.{◌≡◌, ◌↔◌, true, [], Some, IfOk, IfErr, IfSome, OnOk, OnErr, IsTrue, MatchOption, slice_get, length, map, not};
+ghost use Rattle.std.specs.{List.{All}, Option.{option_copied}};
 ghost use Rattle.cml_scan.specs.{World.{PlainThread, running, pending}, Scan.{scan, has_row}};
 ghost use Rattle.cml_book.specs.{Walks.{is_running}, Swaps.{swaps}};
 ghost use Rattle.cml_schedule.specs.{Laws.{IsWritable}, Laws.{AreNumbers}};
@@ -11,12 +11,12 @@ ghost use Rattle.cml_hub.specs.{Deeds.{origins, fault_count, IsKnown}, Playing.{
 ghost use Rattle.cml_hub.specs.Runs as spec;
 
 use crate::choose::Chooser;
-use crate::deeds::{Deeds, note};
+use crate::deeds::Deeds;
 use crate::done::AfterTurn;
-use crate::perform::{RunBook, prepare};
+use crate::perform::RunBook;
 use crate::pick::pick_row;
-use crate::settle::{resume_all, settle};
-use crate::turn::{TurnMade, take_turn};
+use crate::settle::resume_all;
+use crate::trail::Trail;
 use cml_book::{Book, Fault};
 use cml_check::Prog;
 use cml_index::OfferIndex;
@@ -29,60 +29,42 @@ use cml_value::{FnRef, Tid};
 use std::alloc::{AllocError, AllocFailed, Global};
 use std::marker::Model;
 
-// A program, the schedule so far, and where it has led: the threads and objects, the machine of each thread, the output, and how much of
-// the budget was used. The undo is no thread's: each turn uses its lists again. What the turns did is read off the schedule
-// (`specs/Deeds`).
-#[derive(Drop)]
+// A program, the threads and objects, and what the items so far have left besides. The undo is no thread's: each turn uses its lists again.
+// What the turns did is read off the schedule (`specs/Deeds`).
 pub(crate) struct Course {
     program: Prog,
-    items: Vec<Item>,
     threads: RunBook,
-    machines: Vec<Machine>,
     undo: Undo,
-    output: String,
-    used: u128,
-    deeds: Deeds,
+    trail: Trail,
 }
 
 impl Model for Course {
-    ghost use Rattle.std.specs.String.{string_bytes};
-    ghost use Rattle.cml_hub.specs.{CourseCodes.{course_code}, Courses.{PlainCourse, Leads}, Deeds.{IsKnown}};
+    ghost use Rattle.cml_hub.specs.{CourseCodes.{course_code}, Courses.{PlainCourse, Leads}, Deeds.{IsKnown}, Trails.{course_of}};
     ghost use Rattle.cml_step.specs.Calls.{text_of};
 
     ghost Value = { PlainCourse };
 
     ghost coded = { course_code };
 
-    ghost view = { λ c. record {
-      program = c.program;
-      items = c.items.items;
-      world = c.threads;
-      machines = c.machines.items;
-      output = string_bytes c.output;
-      used = c.used;
-    } };
+    ghost view = { λ c. course_of c.program c.threads c.trail };
 
-    ghost invariant = { λ c. Leads (record {
-      program = c.program;
-      items = c.items.items;
-      world = c.threads;
-      machines = c.machines.items;
-      output = string_bytes c.output;
-      used = c.used;
-    }) × IsKnown (text_of c.program) c.items.items c.deeds.origins.items c.deeds.faults };
+    ghost invariant = { λ c. Leads (course_of c.program c.threads c.trail)
+        × IsKnown (text_of c.program) c.trail.items.items c.trail.deeds.origins.items c.trail.deeds.faults };
 }
 
-// Appends a line to the output, where there is room for it.
-fn tell(output: &mut String, line: &str)
-    requires { string_len output.old + length line.now ≤ string_capacity output.old }
-    ensures { string_bytes output.new ≡ string_bytes output.old ++ line.now }
-{
-    if line.is_empty() {
-        return;
-    }
-    match output.push_str(line) {
-        Ok(()) => {}
-        Err(_) => unreachable!(),
+// Written out, so that how the parts are dropped is proved once, and whoever drops a course calls this.
+impl Drop for Course {
+    fn drop(self) {
+        let Course {
+            program,
+            threads,
+            undo,
+            trail,
+        } = self;
+        drop(program);
+        drop(threads);
+        drop(undo);
+        drop(trail);
     }
 }
 
@@ -128,14 +110,14 @@ impl Course {
         ensures leads { spec.stands (text_of self.now.program) self.now.items ≡ Some (run_of self.now) }
         ensures writable { All IsWritable self.now.items }
     {
-        self.items.as_slice()
+        self.trail.items.as_slice()
     }
 
     // What was printed, with the lines of faults.
     pub(crate) fn output(&self) -> &str
         ensures { result.now ≡ self.now.output }
     {
-        self.output.as_str()
+        self.trail.output.as_str()
     }
 
     // How much of the budget was used by the schedule so far, which leads to where the course stands.
@@ -143,7 +125,7 @@ impl Course {
         ensures used { result ≡ self.now.used }
         ensures leads { spec.stands (text_of self.now.program) self.now.items ≡ Some (run_of self.now) }
     {
-        self.used
+        self.trail.used
     }
 
     // How many threads wait.
@@ -222,7 +204,7 @@ impl Course {
         ensures stands { GoesOn self.now.program result.now }
         ensures thread { result.now.thread ≡ thread.0 }
     {
-        &self.machines[thread.0 as usize]
+        &self.trail.machines[thread.0 as usize]
     }
 
     // The threads and objects.
@@ -239,21 +221,21 @@ impl Course {
         ensures stands { (t : PlainThread) → slice_get self.now.world.threads thread.0 ≡ Some t →
             MatchOption result ⊥ (λ m. MachineStands self.now.program t m.now) }
     {
-        machine_at(self.machines.as_slice(), thread)
+        machine_at(self.trail.machines.as_slice(), thread)
     }
 
     // The function with which the thread began, if there is such a one.
     pub(crate) fn origin(&self, thread: Tid) -> Option<&FnRef>
         ensures { option_copied result ≡ slice_get (origins (text_of self.now.program) self.now.items) thread.0 }
     {
-        self.deeds.origins.get(thread.0 as usize)
+        self.trail.deeds.origins.get(thread.0 as usize)
     }
 
     // How many threads ended at a fault.
     pub(crate) fn faults(&self) -> usize
         ensures { result ≡ fault_count (text_of self.now.program) self.now.items }
     {
-        self.deeds.faults
+        self.trail.deeds.faults
     }
 
     // Whether the slice is of this program, and some running thread has the machine with which it began. It compares both.
@@ -273,7 +255,7 @@ impl Course {
         if !self.threads.is_running(thread) {
             return false;
         }
-        self.machines[thread.0 as usize].same(start)
+        self.trail.machines[thread.0 as usize].same(start)
     }
 
     // Gives the thread a turn.
@@ -282,28 +264,16 @@ impl Course {
         ensures ok { IfOk result (λ gone. Turns self.old thread gone self.new) }
         ensures err { OnErr result (self.new ≡ self.old) }
     {
-        self.items.reserve(1)?;
-        self.machines.reserve(1)?;
-        self.deeds.origins.reserve(1)?;
         let mut ask = Ask::Nothing;
-        let taken = take_turn(
+        let made = self.trail.take_turn(
             alloc,
             &self.program,
             &mut self.threads,
-            &mut self.output,
-            thread,
-            &mut self.machines[thread.0 as usize],
             &mut self.undo,
+            thread,
             &mut ask,
         )?;
-        let TurnMade { steps, prepared } = taken;
-        let gone = prepared.done.gone();
-        note(&mut self.deeds, ask, &prepared.done);
-        tell(&mut self.output, prepared.line.as_str());
-        settle(&mut self.machines, thread, prepared.done);
-        self.items.push_reserved(Item::Turn(thread));
-        self.used += u128::from(steps);
-        Ok(gone)
+        Ok(self.trail.add_turn(thread, ask, made))
     }
 
     // Adds the slice as a turn of its thread.
@@ -312,37 +282,13 @@ impl Course {
         ensures ok { IfOk result (λ r. Turns self.old r.0 r.1 self.new × (r.0.0 ≡ ran.start.thread)) }
         ensures err { IfErr result (λ back. (back ≡ ran) × (self.new ≡ self.old)) }
     {
-        let thread = ran.start().thread();
-        let steps = ran.steps();
-        let Ok(()) = self.items.reserve(1) else {
-            return Err(ran);
-        };
-        let Ok(()) = self.machines.reserve(1) else {
-            return Err(ran);
-        };
-        let Ok(()) = self.deeds.origins.reserve(1) else {
-            return Err(ran);
-        };
-        let Ok(prepared) = prepare(
-            alloc,
-            &self.program,
-            &mut self.threads,
-            &mut self.output,
-            thread,
-            ran.end(),
-            ran.ask(),
-        ) else {
-            return Err(ran);
-        };
-        let gone = prepared.done.gone();
-        tell(&mut self.output, prepared.line.as_str());
-        let (end, ask) = ran.into_end();
-        note(&mut self.deeds, ask, &prepared.done);
-        self.machines[thread.0 as usize] = end;
-        settle(&mut self.machines, thread, prepared.done);
-        self.items.push_reserved(Item::Turn(thread));
-        self.used += u128::from(steps);
-        Ok((thread, gone))
+        match self
+            .trail
+            .take_slice(alloc, &self.program, &mut self.threads, &ran)
+        {
+            Ok(made) => Ok(self.trail.add_slice(ran, made)),
+            Err(_) => Err(ran),
+        }
     }
 
     // Takes the row, as this item.
@@ -354,12 +300,12 @@ impl Course {
     {
         scan_lists_what_is_enabled();
         read_numbers(row);
-        self.items.reserve(1)?;
+        self.trail.items.reserve(1)?;
         match self.threads.commit_known(alloc, row) {
             Ok(committed) => {
-                resume_all(&mut self.machines, committed);
-                self.items.push_reserved(item);
-                self.used += 1;
+                resume_all(&mut self.trail.machines, committed);
+                self.trail.items.push_reserved(item);
+                self.trail.used += 1;
                 Ok(())
             }
             Err(Fault::Memory) => Err(AllocError),
@@ -373,11 +319,11 @@ impl Course {
         ensures ok { OnOk result (Ticks self.old tick self.new) }
         ensures err { OnErr result (self.new ≡ self.old) }
     {
-        self.items.reserve(1)?;
+        self.trail.items.reserve(1)?;
         match self.threads.clock(alloc, tick) {
             Ok(()) => {
-                self.items.push_reserved(Item::Clock(tick));
-                self.used += 1;
+                self.trail.items.push_reserved(Item::Clock(tick));
+                self.trail.used += 1;
                 Ok(())
             }
             Err(Fault::Memory) => Err(AllocError),
@@ -401,7 +347,11 @@ fn opening(alloc: Global, program: &Prog) -> Result<(Vec<Machine>, RunBook), All
     let mut threads = Book::new(alloc, OfferIndex::new(alloc));
     match threads.spawn() {
         Ok(_) => Ok((machines, threads)),
-        Err(_) => Err(AllocError),
+        Err(_) => {
+            drop(machines);
+            drop(threads);
+            Err(AllocError)
+        }
     }
 }
 
@@ -429,13 +379,15 @@ impl Course {
         match opening(alloc, &program) {
             Ok((machines, threads)) => Ok(Course {
                 program,
-                items: Vec::new(alloc),
                 threads,
-                machines,
                 undo: Undo::new(alloc),
-                output: String::new(alloc),
-                used: 0,
-                deeds,
+                trail: Trail {
+                    items: Vec::new(alloc),
+                    machines,
+                    output: String::new(alloc),
+                    used: 0,
+                    deeds,
+                },
             }),
             Err(_) => {
                 drop(deeds);
@@ -449,6 +401,15 @@ impl Course {
         ensures program { result ≡ self.program }
         ensures leads { spec.stands (text_of self.program) self.items ≡ Some (run_of self) }
     {
-        self.program
+        let Course {
+            program,
+            threads,
+            undo,
+            trail,
+        } = self;
+        drop(threads);
+        drop(undo);
+        drop(trail);
+        program
     }
 }

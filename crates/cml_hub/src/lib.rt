@@ -12,6 +12,7 @@ mod marks;
 mod perform;
 mod pick;
 mod settle;
+mod trail;
 mod turn;
 
 pub use choose::{Chooser, First, Script, Seeded};

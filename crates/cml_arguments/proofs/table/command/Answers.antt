@@ -1,7 +1,6 @@
-use Rattle.std.proofs.Common.{rules, ◌≡◌, ◌∙◌, ap, ap₂, codes, true, []}
-use Rattle.std.proofs.lemmas.Result.{IfOk-weaker}
+use Rattle.std.proofs.Common.{rules, ◌≡◌, codes, true, []}
 use Rattle.clap.specs.Words.{App, app_of, new_app, with_subcommand}
-use Rattle.cml_arguments.specs.Words.{file_command, part_command, replay_command, run_command, trace_command, with_others}
+use Rattle.cml_arguments.specs.Words.{file_command, part_command, replay_command, run_command, trace_command}
 use Rattle.cml_arguments.proofs.table.command.Goals as goal
 
 -- the program without its commands, and with the first of them
@@ -28,16 +27,11 @@ six = with_subcommand five (part_command (codes "explain"))
 
 pub returns : goal.returns
 returns c =
-    let is_none : app_of c.subcommand_required.result ≡ none = search rules in
-    let is_one : app_of c.in_ok-subcommand.field-0 ≡ one = c.in_ok-subcommand.ensures.shape c.in_ok-trace.ensures.globals ∙ ap₂ with_subcommand is_none c.in_ok-trace.ensures.shape in
-    let is_two : app_of c.in_ok-subcommand-2.field-0 ≡ two =
-    c.in_ok-subcommand-2.ensures.shape c.in_ok-check.ensures.globals ∙ ap₂ with_subcommand is_one c.in_ok-check.ensures.shape in
-    let is_three : app_of c.in_ok-subcommand-3.field-0 ≡ three =
-    c.in_ok-subcommand-3.ensures.shape c.in_ok-fmt.ensures.globals ∙ ap₂ with_subcommand is_two c.in_ok-fmt.ensures.shape in
-    let is_four : app_of c.in_ok-subcommand-4.field-0 ≡ four =
-    c.in_ok-subcommand-4.ensures.shape c.in_ok-run.ensures.globals ∙ ap₂ with_subcommand is_three c.in_ok-run.ensures.shape in
-    let is_five : app_of c.in_ok-subcommand-5.field-0 ≡ five =
-    c.in_ok-subcommand-5.ensures.shape c.in_ok-replay.ensures.globals ∙ ap₂ with_subcommand is_four c.in_ok-replay.ensures.shape in
-    let is_six : app_of c.in_ok-program.program ≡ six =
-    c.in_ok-program.ensures.shape c.in_ok-explain.ensures.globals ∙ ap₂ with_subcommand is_five c.in_ok-explain.ensures.shape in
-    IfOk-weaker c.others.result _ _ (λ command is. is ∙ ap with_others is_six) c.others.ensures
+    let is_none : app_of c.subcommand_required-program.result ≡ none = search rules in
+    let is_one = c.with_command-program.ensures none trace_command is_none c.trace.ensures in
+    let is_two = c.with_command-program-2.ensures one (file_command (codes "check")) is_one c.file_alone.ensures in
+    let is_three = c.with_command-program-3.ensures two (file_command (codes "fmt")) is_two c.file_alone-2.ensures in
+    let is_four = c.with_command-program-4.ensures three run_command is_three c.run.ensures in
+    let is_five = c.with_command-program-5.ensures four replay_command is_four c.replay.ensures in
+    let is_six = c.with_command-program-6.ensures five (part_command (codes "explain")) is_five c.explain_run.ensures in
+    c.others.ensures six is_six

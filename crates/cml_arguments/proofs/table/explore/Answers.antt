@@ -1,14 +1,30 @@
-use Rattle.std.proofs.Common.{rules, codes, List, [], ◌∷◌}
-use Rattle.clap.specs.Words.{Rule}
-use Rattle.cml_arguments.specs.Words.{any_rule, count_rule, runs_rule, with_finding, with_order, workers_rule}
-use Rattle.cml_arguments.proofs.Added.{added_to, helped, made, made_if_ok, with_rules}
+use Rattle.std.proofs.Common.{rules, codes, [], ◌∷◌}
+use Rattle.clap.specs.Words.{Shape}
+use Rattle.std.specs.Prelude.{IfOk}
+use Rattle.cml_arguments.specs.Words.{any_rule, command_of, count_rule, file_rule, runs_rule, with_order, with_rule, workers_rule, IsShapedAs}
+use Rattle.cml_arguments.proofs.Added.{helped}
 use Rattle.cml_arguments.proofs.table.explore.Goals as goal
 
--- the rules of its own arguments
-abbrev own : List Rule
-own = runs_rule (codes "runs") ∷ any_rule (codes "seed") ∷ count_rule (codes "steps") ∷ workers_rule (codes "workers") ∷ []
+-- the command on a file, and with its arguments one after another
+abbrev begun : Shape
+begun = (command_of (codes "explore") (file_rule (codes "FILE") ∷ []))
+
+abbrev first : Shape
+first = with_rule (runs_rule (codes "runs")) begun
+
+abbrev second : Shape
+second = with_rule (any_rule (codes "seed")) first
+
+abbrev third : Shape
+third = with_rule (count_rule (codes "steps")) second
+
+abbrev fourth : Shape
+fourth = with_rule (workers_rule (codes "workers")) third
 
 pub returns : goal.returns
 returns c =
-    let command = made (with_rules own) _ _ _ c.in_ok-on_file.ensures (added_to own _ _ _ _ c.in_ok-own.ensures.items (search (rules, helped)) c.in_ok-counted.ensures) in
-    made_if_ok _ with_finding _ _ _ (made with_order _ _ _ command c.in_ok-ordered.ensures) c.finding.ensures
+    let one : IfOk c.with_arg-command.result (IsShapedAs first) = c.with_arg-command.ensures (runs_rule (codes "runs")) begun (search (rules, helped)) c.on_file.ensures in
+    let two : IfOk c.with_arg-command-2.result (IsShapedAs second) = c.with_arg-command-2.ensures (any_rule (codes "seed")) first (search (rules, helped)) one in
+    let three : IfOk c.with_arg-command-3.result (IsShapedAs third) = c.with_arg-command-3.ensures (count_rule (codes "steps")) second (search (rules, helped)) two in
+    let four : IfOk c.with_arg-command-4.result (IsShapedAs fourth) = c.with_arg-command-4.ensures (workers_rule (codes "workers")) third (search (rules, helped)) three in
+    c.finding.ensures (with_order fourth) (c.ordering.ensures fourth four)

@@ -1,7 +1,9 @@
-use Rattle.std.proofs.Common.{rules}
-use Rattle.cml_arguments.specs.Words.{order_rules}
-use Rattle.cml_arguments.proofs.Added.{added, helped}
+use Rattle.std.proofs.Common.{rules, codes}
+use Rattle.cml_arguments.specs.Words.{depth_rule, flag_rule, with_rule}
+use Rattle.cml_arguments.proofs.Added.{helped, shaped, two_added}
 use Rattle.cml_arguments.proofs.table.ordering.Goals as goal
 
 pub returns : goal.returns
-returns c = added _ order_rules _ _ _ _ c.in_ok-vec.ensures.items (search (rules, helped)) c.args-2.ensures
+returns c = λ shape made.
+    let one = c.with_arg.ensures (flag_rule (codes "turns")) shape (search (rules, helped)) made in
+    shaped _ _ _ _ (two_added (flag_rule (codes "turns")) (depth_rule (codes "priority")) shape) (c.with_arg-2.ensures (depth_rule (codes "priority")) (with_rule (flag_rule (codes "turns")) shape) (search (rules, helped)) one)

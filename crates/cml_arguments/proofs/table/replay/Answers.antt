@@ -1,14 +1,21 @@
-use Rattle.std.proofs.Common.{rules, codes, List, [], ◌∷◌}
-use Rattle.clap.specs.Words.{Rule}
-use Rattle.cml_arguments.specs.Words.{count_rule, file_rule, with_end, with_explain}
-use Rattle.cml_arguments.proofs.Added.{added_to, made, made_if_ok, with_rules}
+use Rattle.std.proofs.Common.{codes, [], ◌∷◌}
+use Rattle.clap.specs.Words.{Shape}
+use Rattle.std.specs.Prelude.{IfOk}
+use Rattle.cml_arguments.specs.Words.{command_of, count_rule, file_rule, with_end, with_rule, IsShapedAs}
 use Rattle.cml_arguments.proofs.table.replay.Goals as goal
 
--- the rules of its own arguments
-abbrev own : List Rule
-own = file_rule (codes "SCHEDULE") ∷ count_rule (codes "watch") ∷ []
+-- the command on a file, and with its arguments one after another
+abbrev begun : Shape
+begun = (command_of (codes "replay") (file_rule (codes "FILE") ∷ []))
+
+abbrev first : Shape
+first = with_rule (file_rule (codes "SCHEDULE")) begun
+
+abbrev second : Shape
+second = with_rule (count_rule (codes "watch")) first
 
 pub returns : goal.returns
 returns c =
-    let command = made (with_rules own) _ _ _ c.in_ok-on_file.ensures (added_to own _ _ _ _ c.in_ok-own.ensures.items (search rules) c.in_ok-command.ensures) in
-    made_if_ok _ with_explain _ _ _ (made with_end _ _ _ command c.in_ok-ended.ensures) c.explaining.ensures
+    let one : IfOk c.with_arg-command.result (IsShapedAs first) = c.with_arg-command.ensures (file_rule (codes "SCHEDULE")) begun c.file.ensures c.on_file.ensures in
+    let two : IfOk c.with_arg-command-2.result (IsShapedAs second) = c.with_arg-command-2.ensures (count_rule (codes "watch")) first c.watch.ensures one in
+    c.explaining.ensures (with_end second) (c.ending.ensures second two)

@@ -1,8 +1,8 @@
 use Rattle.std.proofs.Common.{◌≡◌, true}
-use Rattle.std.specs.String.{string_bytes}
 use Rattle.cml_scan.specs.Scan.{scan}
 use Rattle.cml_hub.specs.Runs.{is_allowed}
 use Rattle.cml_step.specs.Calls.{text_of}
+use Rattle.cml_hub.specs.Trails.{course_of}
 use Rattle.cml_hub.specs.Courses.{PlainCourse, run_of}
 use Rattle.cml_hub.proofs.DeedLemmas.{still_known, no_deed}
 use Rattle.cml_hub.proofs.RowLemmas.{row_there}
@@ -18,7 +18,7 @@ commit_known-requires c =
 pub resume_all-requires : goal.resume_all-requires
 resume_all-requires c =
     let s = c.self.inside in
-    let k : PlainCourse = record { program = s.program; items = s.items.items; world = s.threads; machines = s.machines.items; output = string_bytes s.output; used = s.used } in
+    let k : PlainCourse = course_of s.program s.threads s.trail in
     let ok : is_allowed s.threads c.args.item ≡ true = rw (← c.self.view_is) at c.requires.allowed in
     let has = takes_there s.threads c.args.item c.args.row c.requires.takes ok in
     let is = committed_is s.threads c.commit_known.new.self c.args.row c.in-Ok.committed c.in-Ok.ensures.step has in
@@ -28,7 +28,7 @@ resume_all-requires c =
 pub invariant_of-self-in-Ok : goal.invariant_of-self-in-Ok
 invariant_of-self-in-Ok c =
     let s = c.self.inside in
-    let k : PlainCourse = record { program = s.program; items = s.items.items; world = s.threads; machines = s.machines.items; output = string_bytes s.output; used = s.used } in
+    let k : PlainCourse = course_of s.program s.threads s.trail in
     let ok : is_allowed s.threads c.args.item ≡ true = rw (← c.self.view_is) at c.requires.allowed in
     let has = takes_there s.threads c.args.item c.args.row c.requires.takes ok in
     let is = committed_is s.threads c.commit_known.new.self c.args.row c.in-Ok.committed c.in-Ok.ensures.step has in
@@ -37,7 +37,7 @@ invariant_of-self-in-Ok c =
     let all = rw (is.1) at c.resume_all.ensures in (
       rw (c.push_reserved.ensures.items, c.reserve.ensures.items, is.0) (met_leads k c.args.item c.args.row c.resume_all.new.machines.items c.self.invariant.0 may all),
       rw (c.push_reserved.ensures.items, c.reserve.ensures.items)
-          (still_known (text_of s.program) s.items.items c.args.item (run_of k) s.deeds.origins.items s.deeds.faults
+          (still_known (text_of s.program) s.trail.items.items c.args.item (run_of k) s.trail.deeds.origins.items s.trail.deeds.faults
           c.self.invariant.0.leads (no_deed (text_of s.program) (run_of k) c.args.item c.args.row c.requires.takes)
           c.self.invariant.1),
     )
@@ -45,7 +45,7 @@ invariant_of-self-in-Ok c =
 pub returns-in-Ok-clause-ok : goal.returns-in-Ok-clause-ok
 returns-in-Ok-clause-ok c =
     let s = c.self.inside in
-    let k : PlainCourse = record { program = s.program; items = s.items.items; world = s.threads; machines = s.machines.items; output = string_bytes s.output; used = s.used } in
+    let k : PlainCourse = course_of s.program s.threads s.trail in
     let ok : is_allowed s.threads c.args.item ≡ true = rw (← c.self.view_is) at c.requires.allowed in
     let has = takes_there s.threads c.args.item c.args.row c.requires.takes ok in
     let is = committed_is s.threads c.commit_known.new.self c.args.row c.in-Ok.committed c.in-Ok.ensures.step has in

@@ -1,0 +1,12 @@
+pub mod Runs
+pub mod Closed
+pub mod Quiet
+pub mod Places
+pub mod Following
+pub mod Rounds
+pub mod Back
+pub mod Ends
+pub mod Views
+pub mod Listing
+pub mod Local
+pub mod Broad

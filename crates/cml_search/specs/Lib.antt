@@ -1,0 +1,4 @@
+pub mod Systems
+pub mod Laws
+pub mod Searches
+pub mod Threads

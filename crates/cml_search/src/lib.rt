@@ -1,0 +1,9 @@
+//! A complete search over all schedules of a system of threads, and the laws by which it is complete.
+#![tactic(auto)]
+
+mod found;
+pub mod law;
+mod system;
+
+pub use found::{Found, all_ends, all_states, ends_of, reach, schedule_to};
+pub use system::System;
