@@ -9,6 +9,7 @@ use std::process::Abort;
 use std::rt::HostRuntime;
 
 // A script with the items of a schedule, how many tries there may be, and how many it takes.
+#[derive(Clone, Copy)]
 struct Case {
     script: &'static str,
     items: &'static str,
