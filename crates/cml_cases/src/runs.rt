@@ -77,9 +77,8 @@ fn alike(one: &[u8], other: &[u8]) -> usize {
 
 // Some of the bytes, from a few before this number on.
 fn part(bytes: &[u8], at: usize) -> &[u8] {
-    let first = at.saturating_sub(40).min(bytes.len());
-    let last = first.saturating_add(TOLD).min(bytes.len());
-    &bytes[first..last]
+    let rest = bytes.get(at.saturating_sub(40)..).unwrap_or(&[]);
+    rest.get(..TOLD).unwrap_or(rest)
 }
 
 // Tells where what came differs from what is wanted, if it does.
