@@ -48,6 +48,13 @@ impl MemoryStore {
     {
         self.room = files;
     }
+
+    /// Whether something lies under each of the names of the second list, and nothing under a name that is none of the first.
+    pub fn holds_just(&self, names: &[&str], some: &[&str]) -> bool {
+        let files = self.files.as_slice();
+        files.iter().all(|file| names.contains(&file.name.as_str()))
+            && some.iter().all(|name| find(files, name).is_some())
+    }
 }
 
 // The file that lies under the name.
