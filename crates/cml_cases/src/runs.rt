@@ -3,7 +3,7 @@
 use crate::cases::{Case, File, Words};
 use crate::tally::Tally;
 use cml_host::{Open, Store, run_command_counted};
-use cml_program_tests::memory_store::MemoryStore;
+use cml_memory::MemoryStore;
 use cml_stream::Counting;
 use cml_system::Disk;
 use std::alloc::{AllocError, Global};

@@ -1,8 +1,8 @@
 //! Streams that fail: the first failing read or write ends the program, and what was written before it stands.
 
-use crate::memory_store::MemoryStore;
 use crate::run::{Runtime, filled, left_by, words};
 use cml_host::{Store, run_command};
+use cml_memory::MemoryStore;
 use std::alloc::Global;
 use std::io::{Error, ErrorKind, Read, Result as IoResult, Write};
 use std::test::Fail;

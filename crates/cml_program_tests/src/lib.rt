@@ -5,7 +5,6 @@
 mod faults;
 #[cfg(test)]
 mod gates;
-pub mod memory_store;
 #[cfg(test)]
 mod run;
 #[cfg(test)]

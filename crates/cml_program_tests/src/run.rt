@@ -1,7 +1,7 @@
 //! The program, over memory.
 
-use crate::memory_store::MemoryStore;
 use cml_host::{Store, run_command};
+use cml_memory::MemoryStore;
 use rand_core::{Rng, SeedableRng};
 use rand_pcg::Pcg32;
 use std::alloc::{AllocError, Global};

@@ -1,8 +1,8 @@
 //! Beginnings of scripts, and random bytes, in a file of the store: what `check` and `fmt` say of them.
 
-use crate::memory_store::MemoryStore;
 use crate::run::{ADDITION, CANCELLED, COUNTER, Left, RandomTexts, Runtime, left_by};
 use cml_host::Store;
+use cml_memory::MemoryStore;
 use std::alloc::AllocError;
 use std::test::Fail;
 

@@ -1,6 +1,6 @@
 use Rattle.std.proofs.Common.{◌≡◌, drop}
-use Rattle.cml_program_tests.specs.Files.{content_under}
-use Rattle.cml_program_tests.proofs.memory_store.find.Given as goal
+use Rattle.cml_memory.specs.Files.{content_under}
+use Rattle.cml_memory.proofs.find.Given as goal
 
 -- the name is not that of a file before
 abbrev pub invariant-loop-file : goal.invariant-loop-file

@@ -1,8 +1,9 @@
-//! A store in memory.
+//! A store in memory, for tests of the whole program.
+#![tactic(auto)]
 
 ghost use Rattle.std.specs.{Prelude.{◌≡◌, ◌+◌, ℕ, List, take, IfOk, IfSome, IfNone}, String.{string_bytes}};
 ghost use Rattle.cml_host.specs.Stores.{nothing, bytes};
-ghost use Rattle.cml_program_tests.specs.Files.{content_under};
+ghost use Rattle.cml_memory.specs.Files.{content_under};
 
 use cml_host::{Reason, Store, StoreFault};
 use std::alloc::{AllocError, Global};

@@ -3,7 +3,7 @@ use Rattle.std.specs.Prelude.{ℕ, List, [], ◌∷◌, if◌then◌else◌}
 use Rattle.std.specs.Str.{bytes_eq}
 use Rattle.std.specs.String.{string_bytes}
 use Rattle.cml_host.specs.Stores.{Content, nothing, bytes}
-use Rattle.cml_program_tests.specs.declared.memory_store.File.{File}
+use Rattle.cml_memory.specs.declared.File.{File}
 
 -- The bytes of the first file of this name; nothing where there is none.
 abbrev pub content_under : List File → List ℕ → Content
