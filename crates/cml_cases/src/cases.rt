@@ -10,7 +10,8 @@
 //! - `disk`: the files are those that lie where this program runs.
 //!
 //! The texts of a case are `file NAME`, `input`, `output`, `errors`, `session`, which is input and output in one, and `saved NAME`: what lies under
-//! the name afterwards. Where one is not there it is empty. What else lies in the store stays as it was.
+//! the name afterwards. Where one is not there it is empty, but the input is the line `spawn`. What else lies in the
+//! store stays as it was.
 
 use crate::blocks::Block;
 use std::alloc::{AllocError, Global};
@@ -75,7 +76,7 @@ impl<'a> Case<'a> {
             files: Vec::new(alloc),
             room: None,
             is_on_disk: false,
-            input: &[],
+            input: b"spawn\n",
             output: &[],
             errors: &[],
             status: 0,
