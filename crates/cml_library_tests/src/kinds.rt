@@ -1,6 +1,6 @@
 //! Objects of each kind in a register, the clock, multicast channels, and two ends that meet.
 
-ghost use Rattle.std.specs.Prelude.{◌≡◌, ◌<◌, [], length, All, IsTrue};
+ghost use Rattle.std.specs.Prelude.{◌≡◌, ◌<◌, [], length, All};
 
 use crate::lines::{halves, number, say};
 use crate::making::{MEMORY, value};

@@ -5,6 +5,7 @@
 mod faults;
 #[cfg(test)]
 mod gates;
+pub mod random;
 #[cfg(test)]
 mod run;
 #[cfg(test)]

@@ -1,6 +1,7 @@
 //! Schedules that are cut off, and random bytes in the place of scripts and schedules.
 
-use crate::run::{ADDED, ADDITION, Left, RandomTexts, Runtime, filled, left_by};
+use crate::random::RandomTexts;
+use crate::run::{ADDED, ADDITION, Left, Runtime, filled, left_by};
 use cml_host::Store;
 use std::test::Fail;
 

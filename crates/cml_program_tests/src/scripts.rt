@@ -1,6 +1,7 @@
 //! Beginnings of scripts, and random bytes, in a file of the store: what `check` and `fmt` say of them.
 
-use crate::run::{ADDITION, CANCELLED, COUNTER, Left, RandomTexts, Runtime, left_by};
+use crate::random::RandomTexts;
+use crate::run::{ADDITION, CANCELLED, COUNTER, Left, Runtime, left_by};
 use cml_host::Store;
 use cml_memory::MemoryStore;
 use std::alloc::AllocError;
