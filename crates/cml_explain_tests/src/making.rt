@@ -4,6 +4,7 @@ ghost use Rattle.cml_hub.specs.Kept.{IsBudget};
 
 use crate::budgets::as_budget;
 use cml_check::{Prog, check};
+use cml_hub::{Plan, read_schedule};
 use cml_text::{Sexpr, read};
 use std::process::Abort;
 
@@ -28,4 +29,12 @@ pub fn in_range(rt: &impl Abort, budget: u64) -> u64
         Some(found) => found,
         None => panic!(rt; "no budget: {budget}"),
     }
+}
+
+/// The schedule of these items.
+pub fn scheduled(rt: &(impl Abort + AllocGlobal), items: &str) -> Plan {
+    let text = format!(in rt.alloc(); "schedule 2 1000 1 1\n{items}end\n").expect(rt, MEMORY);
+    read_schedule(rt.alloc(), text.as_bytes())
+        .ok()
+        .expect(rt, items)
 }

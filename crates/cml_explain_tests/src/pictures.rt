@@ -1,7 +1,6 @@
 //! Pictures of runs.
 
-use crate::making::{MEMORY, forms, program};
-use crate::narratives::planned;
+use crate::making::{MEMORY, forms, program, scheduled};
 use cml_chart::{Mark, Shape, picture_of};
 use cml_draw::{DrawFault, draw};
 use cml_hub::Hub;
@@ -11,14 +10,6 @@ use std::process::Abort;
 const CHART: &str =
     "<?xml version='1.0' encoding='UTF-8'?>\n<svg xmlns='http://www.w3.org/2000/svg' version='1.1' width='279' height='180' viewBox='0 0 279 180'><title>a.cml</title><style type='text/css'>svg{background:#fff}text{font:11px monospace}path{fill:none;stroke:#000}.head{font-weight:bold}.note{fill:#555;text-anchor:end}.print{fill:#333;font-style:italic}.lost{fill:#c00;font-weight:bold}.cover{stroke:none;pointer-events:all}.life{stroke:#777}.spawn{stroke-width:.8;stroke-dasharray:2 2}.tick{stroke:#777;stroke-dasharray:7 5}.arrow{stroke-width:1.5}.solid{fill:#000;stroke:none}.bar{stroke-width:3}.waits{fill:#fff;stroke-width:1.5}.stuck{fill:#fff;stroke:#c00;stroke-width:3}</style>\n<path class='life' d='M240 58V123'/>\n<path class='life' d='M82 40V143'/>\n<g><title>thread 0 main</title><path class='cover' d='M0 40H279v0H0z'/><text class='head' x='82' y='40' dx='10' dy='-8'>0 main</text></g>\n<g><title> 2  thread 0 main spawns thread 1 f\n</title><path class='cover' d='M0 40H279v26H0z'/><text class='note' x='72' y='58' dx='-8' dy='4'>2</text><path class='spawn' d='M82 58H240'/><path class='life' d='M240 58m-7-4l7 4l-7 4'/><text class='head' x='240' y='58' dx='8' dy='4'>1 f</text></g>\n<g><title>5</title><path class='cover' d='M0 66H279v26H0z'/><text class='note' x='72' y='84' dx='-8' dy='4'>5</text><path class='arrow' d='M82 84H240'/><path class='solid' d='M240 84l-9-4v8z'/><text class='words' x='82' y='84' dx='10' dy='-6'>channel 0: &quot;&lt;&amp;&gt;&quot;</text></g>\n<g><title>6</title><path class='cover' d='M0 92H279v22H0z'/><text class='note' x='72' y='103' dx='-8' dy='4'>6 tick 7</text><path class='tick' d='M72 103H279'/></g>\n<g><title>7</title><path class='cover' d='M0 114H279v18H0z'/><text class='note' x='72' y='123' dx='-8' dy='4'>7</text><path class='bar' d='M240 123m-7 0h14'/></g>\n<g><title>thread 0 main</title><path class='cover' d='M0 132H279v22H0z'/><path class='stuck' d='M82 143m-5 0a5 5 0 1 0 10 0a5 5 0 1 0-10 0z'/></g>\n<g><title>receive on channel 1</title><path class='cover' d='M0 154H279v14H0z'/><text class='lost' x='82' y='161' dx='8' dy='4'>receive on channel 1</text></g>\n</svg>\n";
 
-// The text of the picture of a value that goes over a channel, as another program wrote it.
-const SENT: &str =
-    "<?xml version='1.0' encoding='UTF-8'?>\n<svg xmlns='http://www.w3.org/2000/svg' version='1.1' width='272' height='155' viewBox='0 0 272 155'><title>put.cml</title><style type='text/css'>svg{background:#fff}text{font:11px monospace}path{fill:none;stroke:#000}.head{font-weight:bold}.note{fill:#555;text-anchor:end}.print{fill:#333;font-style:italic}.lost{fill:#c00;font-weight:bold}.cover{stroke:none;pointer-events:all}.life{stroke:#777}.spawn{stroke-width:.8;stroke-dasharray:2 2}.tick{stroke:#777;stroke-dasharray:7 5}.arrow{stroke-width:1.5}.solid{fill:#000;stroke:none}.bar{stroke-width:3}.waits{fill:#fff;stroke-width:1.5}.stuck{fill:#fff;stroke:#c00;stroke-width:3}</style>\n<path class='life' d='M33 40V116'/>\n<path class='life' d='M135 58V134'/>\n<g><title>2  thread 0 main at 5:3 spawns thread 1 put((chan 0) 5)\n</title><path class='cover' d='M0 40H272v26H0z'/><text class='note' x='23' y='58' dx='-8' dy='4'>2</text><path class='spawn' d='M33 58H135'/><path class='life' d='M135 58m-7-4l7 4l-7 4'/><text class='head' x='135' y='58' dx='8' dy='4'>1 put((chan 0) 5)</text></g>\n<g><title>5  commit: thread 1 put((chan 0) 5) sends 5 on channel 0 to thread 0 main; nacks fired: none  1 could happen\n</title><path class='cover' d='M0 66H272v26H0z'/><text class='note' x='23' y='84' dx='-8' dy='4'>5</text><path class='arrow' d='M135 84H33'/><path class='solid' d='M33 84l9-4v8z'/><text class='words' x='33' y='84' dx='10' dy='-6'>channel 0: 5</text></g>\n<g><title>6  thread 0 main at 7:3 prints 5\n</title><path class='cover' d='M0 92H272v15H0z'/><text class='note' x='23' y='100' dx='-8' dy='4'>6</text><text class='print' x='33' y='100' dx='8' dy='4'>5</text></g>\n<g><title>7  thread 0 main ends\n</title><path class='cover' d='M0 107H272v18H0z'/><text class='note' x='23' y='116' dx='-8' dy='4'>7</text><path class='bar' d='M33 116m-7 0h14'/></g>\n<g><title>8  thread 1 put((chan 0) 5) ends\n</title><path class='cover' d='M0 125H272v18H0z'/><text class='note' x='23' y='134' dx='-8' dy='4'>8</text><path class='bar' d='M135 134m-7 0h14'/></g>\n<g><title>thread 0 main</title><path class='cover' d='M0 40H272v0H0z'/><text class='head' x='33' y='40' dx='10' dy='-8'>0 main</text></g>\n</svg>\n";
-
-// The same of items from the fourth on, at whose end three threads wait in vain.
-const STUCK: &str =
-    "<?xml version='1.0' encoding='UTF-8'?>\n<svg xmlns='http://www.w3.org/2000/svg' version='1.1' width='563' height='158' viewBox='0 0 563 158'><title>take.cml</title><style type='text/css'>svg{background:#fff}text{font:11px monospace}path{fill:none;stroke:#000}.head{font-weight:bold}.note{fill:#555;text-anchor:end}.print{fill:#333;font-style:italic}.lost{fill:#c00;font-weight:bold}.cover{stroke:none;pointer-events:all}.life{stroke:#777}.spawn{stroke-width:.8;stroke-dasharray:2 2}.tick{stroke:#777;stroke-dasharray:7 5}.arrow{stroke-width:1.5}.solid{fill:#000;stroke:none}.bar{stroke-width:3}.waits{fill:#fff;stroke-width:1.5}.stuck{fill:#fff;stroke:#c00;stroke-width:3}</style>\n<path class='life' d='M82 40V121'/>\n<path class='life' d='M233 40V121'/>\n<path class='life' d='M370 58V121'/>\n<g><title>4  thread 0 main at 8:3 spawns thread 2 rest\n</title><path class='cover' d='M0 40H563v26H0z'/><text class='note' x='72' y='58' dx='-8' dy='4'>4</text><path class='spawn' d='M82 58H370'/><path class='life' d='M370 58m-7-4l7 4l-7 4'/><text class='head' x='370' y='58' dx='8' dy='4'>2 rest</text></g>\n<g><title>7  the time moves to tick 3                                                               1 could happen\n</title><path class='cover' d='M0 66H563v22H0z'/><text class='note' x='72' y='77' dx='-8' dy='4'>7 tick 3</text><path class='tick' d='M72 77H563'/></g>\n<g><title>8  commit: thread 1 take((mvar 0)) goes on at tick 3; nacks fired: none                   1 could happen\n</title><path class='cover' d='M0 88H563v22H0z'/><text class='note' x='72' y='99' dx='-8' dy='4'>8</text><path class='solid' d='M233 99m-4 0a4 4 0 1 0 8 0a4 4 0 1 0-8 0z'/><text class='words' x='233' y='99' dx='8' dy='4'>tick 3</text></g>\n<g><title>thread 0 main</title><path class='cover' d='M0 40H563v0H0z'/><text class='head' x='82' y='40' dx='10' dy='-8'>0 main</text></g>\n<g><title>thread 1 take((mvar 0))</title><path class='cover' d='M0 40H563v0H0z'/><text class='head' x='233' y='40' dx='10' dy='-8'>1 take((mvar 0))</text></g>\n<g><title>thread 0 main</title><path class='cover' d='M0 110H563v22H0z'/><path class='stuck' d='M82 121m-5 0a5 5 0 1 0 10 0a5 5 0 1 0-10 0z'/></g>\n<g><title>the end of thread 1</title><path class='cover' d='M0 132H563v14H0z'/><text class='lost' x='82' y='139' dx='8' dy='4'>the end of thread 1</text></g>\n<g><title>thread 1 take((mvar 0))</title><path class='cover' d='M0 110H563v22H0z'/><path class='stuck' d='M233 121m-5 0a5 5 0 1 0 10 0a5 5 0 1 0-10 0z'/></g>\n<g><title>take M-variable 0</title><path class='cover' d='M0 132H563v14H0z'/><text class='lost' x='233' y='139' dx='8' dy='4'>take M-variable 0</text></g>\n<g><title>thread 2 rest</title><path class='cover' d='M0 110H563v22H0z'/><path class='stuck' d='M370 121m-5 0a5 5 0 1 0 10 0a5 5 0 1 0-10 0z'/></g>\n<g><title></title><path class='cover' d='M0 132H563v14H0z'/><text class='lost' x='370' y='139' dx='8' dy='4'>nothing: it never happens</text></g>\n</svg>\n";
-
 // A script with the items of a schedule of it, and those that are shown.
 #[derive(Clone, Copy)]
 struct Run {
@@ -27,20 +18,6 @@ struct Run {
     schedule: &'static str,
     range: (usize, usize),
 }
-
-const SENDS: Run = Run {
-    name: "put.cml",
-    script: "(fn put (c v)\n  (sync (send c v)))\n(fn main ()\n  (let c (chan))\n  (spawn put c 5)\n  (let x (sync (recv c)))\n  (print x))",
-    schedule: "turn 0\nturn 0\nturn 0\nturn 1\ncommit 1 0 0 0\nturn 0\nturn 0\nturn 1\n",
-    range: (1, 1000),
-};
-
-const WAITS: Run = Run {
-    name: "take.cml",
-    script: "(fn take (m)\n  (sync (choose (mtake m) (after 3)))\n  (sync (mtake m)))\n(fn rest () (sync never))\n(fn main ()\n  (let m (mvar))\n  (let t (spawn take m))\n  (spawn rest)\n  (sync (join t)))",
-    schedule: "turn 0\nturn 0\nturn 1\nturn 0\nturn 2\nturn 0\nclock 3\ncommit 1 1\nturn 1\n",
-    range: (4, 9),
-};
 
 // Thread 0 runs, so thread 1, which is not there, has no turn.
 const UNFIT: Run = Run {
@@ -115,7 +92,7 @@ fn drawn(
 ) -> Result<Vec<u8>, DrawFault> {
     let forms = forms(rt, run.script);
     let program = program(rt, forms.as_slice());
-    let plan = planned(rt, schedule);
+    let plan = scheduled(rt, schedule);
     let mut hub = Hub::begin(rt.alloc(), program, 100_000, None).expect(rt, MEMORY);
     let text = run.script.as_bytes();
     let items = plan.items.as_slice();
@@ -133,20 +110,6 @@ fn drawn(
     drop(plan);
     drop(forms);
     picture
-}
-
-// This is drawn of a run.
-fn draws(rt: &(impl Abort + AllocGlobal), run: &Run, expected: &str) {
-    let picture = drawn(rt, run, run.schedule, run.range)
-        .ok()
-        .expect(rt, run.name);
-    assert_eq!(rt; picture.as_slice(), expected.as_bytes());
-}
-
-#[test]
-fn draws_runs(rt: HostRuntime) {
-    draws(&rt, &SENDS, SENT);
-    draws(&rt, &WAITS, STUCK);
 }
 
 // The number of the item that can't happen, 0 where there are too many rows, and else nothing.

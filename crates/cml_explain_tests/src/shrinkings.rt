@@ -1,22 +1,20 @@
-//! Shorter schedules that end alike: what comes of each was worked out by hand, as were the tries that it takes.
+//! How many tries it takes to find a shorter schedule that ends alike, which was worked out by hand, and how long two schedules are, in words.
 
 ghost use Rattle.cml_hub.specs.Kept.{IsBudget};
 
-use crate::making::{MEMORY, forms, in_range, program};
-use cml_hub::{Item, Plan, read_schedule};
-use cml_shrink::{ShrinkFault, push_counts, shrink};
+use crate::making::{MEMORY, forms, in_range, program, scheduled};
+use cml_hub::Item;
+use cml_shrink::{push_counts, shrink};
 use std::process::Abort;
 use std::rt::HostRuntime;
 
-// A script with the items of a schedule, and what comes of it with so many tries.
+// A script with the items of a schedule, how many tries there may be, and how many it takes.
+#[derive(Clone, Copy)]
 struct Case {
     script: &'static str,
     items: &'static str,
     tries: u64,
-    // The items of the schedule that is found, how many tries that takes, and what is said of it.
-    found: &'static str,
     used: u64,
-    said: &'static str,
 }
 
 // Each of two threads takes what the other wants: a deadlock where both have taken one.
@@ -31,19 +29,19 @@ const PRINTS: &str =
 const PRINTED: &str =
     "turn 0\nturn 0\nturn 0\nturn 1\nturn 0\nturn 2\nturn 0\ncommit 1 0\nturn 1\nturn 0\ncommit 2 0\nturn 2\nturn 1\nturn 0\nturn 2\n";
 
-// Each thread's turns together, as far as they can be.
-const TOGETHER: &str =
-    "turn 0\nturn 0\nturn 0\nturn 0\nturn 0\nturn 1\nturn 2\ncommit 1 0\nturn 1\nturn 1\ncommit 2 0\nturn 2\nturn 2\n";
+// Two threads that lock.
+const LOCKED: &str =
+    "turn 0\nturn 0\nturn 0\nturn 1\nturn 0\nturn 2\nturn 0\ncommit 1 0\nturn 1\ncommit 2 0\nturn 2\nturn 1\nturn 2\n";
 
-const CASES: [Case; 7] = [
+const ONE: &str = "(fn main ()\n  (print 1))";
+
+const CASES: [Case; 6] = [
     // Nothing can be left out: 26 tries for one pass, 3 for turns that move, 22 for ranges, and 26 for the last pass.
     Case {
         script: LOCKS,
-        items: "turn 0\nturn 0\nturn 0\nturn 1\nturn 0\nturn 2\nturn 0\ncommit 1 0\nturn 1\ncommit 2 0\nturn 2\nturn 1\nturn 2\n",
+        items: LOCKED,
         tries: 10_000,
-        found: TOGETHER,
         used: 77,
-        said: "13 items, 2 commits -> 13 items, 2 commits\n",
     },
     // The prints are left out, in a pass of 27 tries: after each the loop goes on where it began. Then 24 tries for a pass, 2 for turns that move, 18 for
     // ranges, and 24 for the last pass.
@@ -51,61 +49,35 @@ const CASES: [Case; 7] = [
         script: PRINTS,
         items: PRINTED,
         tries: 10_000,
-        found: "turn 0\nturn 0\nturn 0\nturn 0\nturn 1\nturn 2\ncommit 1 0\nturn 1\nturn 1\ncommit 2 0\nturn 2\nturn 2\n",
         used: 95,
-        said: "15 items, 2 commits -> 12 items, 2 commits\n",
     },
     // The last print is left out by the third try.
     Case {
         script: PRINTS,
         items: PRINTED,
         tries: 3,
-        found: "turn 0\nturn 0\nturn 0\nturn 1\nturn 0\nturn 2\nturn 0\ncommit 1 0\nturn 1\nturn 0\ncommit 2 0\nturn 2\nturn 1\nturn 2\n",
         used: 3,
-        said: "15 items, 2 commits -> 14 items, 2 commits\n",
     },
     Case {
         script: PRINTS,
         items: PRINTED,
         tries: 2,
-        found: PRINTED,
         used: 2,
-        said: "15 items, 2 commits -> 15 items, 2 commits\n",
-    },
-    Case {
-        script: PRINTS,
-        items: PRINTED,
-        tries: 0,
-        found: PRINTED,
-        used: 0,
-        said: "15 items, 2 commits -> 15 items, 2 commits\n",
     },
     // The one item: a thread's items from it on, and it alone. Both times the thread runs where it began.
     Case {
-        script: "(fn main ()\n  (print 1))",
+        script: ONE,
         items: "turn 0\n",
         tries: 100,
-        found: "turn 0\n",
         used: 4,
-        said: "1 item, 0 commits -> 1 item, 0 commits\n",
     },
     Case {
-        script: "(fn main ()\n  (print 1))",
+        script: ONE,
         items: "",
         tries: 100,
-        found: "",
         used: 0,
-        said: "0 items, 0 commits -> 0 items, 0 commits\n",
     },
 ];
-
-// The schedule of these items.
-fn scheduled(rt: &(impl Abort + AllocGlobal), items: &str) -> Plan {
-    let text = format!(in rt.alloc(); "schedule 2 1000 1 1\n{items}end\n").expect(rt, MEMORY);
-    read_schedule(rt.alloc(), text.as_bytes())
-        .ok()
-        .expect(rt, items)
-}
 
 // How long the two are, in words.
 fn counted(rt: &(impl Abort + AllocGlobal), old: &[Item], new: &[Item]) -> Vec<u8> {
@@ -114,54 +86,46 @@ fn counted(rt: &(impl Abort + AllocGlobal), old: &[Item], new: &[Item]) -> Vec<u
     said
 }
 
-#[test]
-fn finds_shorter_schedules(rt: HostRuntime) {
-    for case in &CASES {
-        let forms = forms(&rt, case.script);
-        let program = program(&rt, forms.as_slice());
-        let given = scheduled(&rt, case.items);
-        let wanted = scheduled(&rt, case.found);
-        let budget = in_range(&rt, given.budget);
-        let found = shrink(
-            rt.alloc(),
-            &program,
-            budget,
-            given.items.as_slice(),
-            case.tries,
-        )
+// The case takes as many tries as it says. Returns whether another schedule is found.
+fn takes(rt: &(impl Abort + AllocGlobal), case: &Case) -> bool {
+    let forms = forms(rt, case.script);
+    let program = program(rt, forms.as_slice());
+    let given = scheduled(rt, case.items);
+    let budget = in_range(rt, given.budget);
+    let items = given.items.as_slice();
+    let found = shrink(rt.alloc(), &program, budget, items, case.tries)
         .ok()
-        .expect(&rt, MEMORY);
-        assert!(rt; found.items() == wanted.items.as_slice(), "{}", case.found);
-        assert!(rt;
-            found.used() == case.used,
-            "{} for {}",
-            found.used(),
-            case.used
-        );
-        let said = counted(&rt, given.items.as_slice(), found.items());
-        assert!(rt; said.as_slice() == case.said.as_bytes(), "{}", case.said);
-        drop(said);
-        drop(found);
-        drop(wanted);
-        drop(given);
-        drop(program);
-        drop(forms);
+        .expect(rt, MEMORY);
+    assert!(rt;
+        found.used() == case.used,
+        "{} for {}",
+        found.used(),
+        case.used
+    );
+    let is_new = found.items() != items;
+    drop(found);
+    drop(given);
+    drop(program);
+    drop(forms);
+    is_new
+}
+
+#[test]
+fn takes_so_many_tries(rt: HostRuntime) {
+    for case in &CASES {
+        takes(&rt, case);
     }
 }
 
 #[test]
-fn refuses_what_cannot_be_followed(rt: HostRuntime) {
-    let forms = forms(&rt, LOCKS);
-    let program = program(&rt, forms.as_slice());
-    let given = scheduled(&rt, "turn 0\nturn 0\nturn 1\nturn 0\n");
-    let budget = in_range(&rt, given.budget);
-    match shrink(rt.alloc(), &program, budget, given.items.as_slice(), 100) {
-        Ok(_) => panic!(rt; "it was followed"),
-        Err(why) => assert!(rt; why == ShrinkFault::BadItem(3)),
-    }
-    drop(given);
-    drop(program);
-    drop(forms);
+fn finds_nothing_by_no_try(rt: HostRuntime) {
+    let none = Case {
+        script: PRINTS,
+        items: PRINTED,
+        tries: 0,
+        used: 0,
+    };
+    assert!(rt; !takes(&rt, &none));
 }
 
 #[test]

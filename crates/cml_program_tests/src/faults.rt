@@ -1,89 +1,25 @@
 //! Streams that fail: the first failing read or write ends the program, and what was written before it stands.
 
-use crate::memory_store::MemoryStore;
-use crate::run::{Runtime, words};
-use crate::words::HELP;
+use crate::run::{Runtime, filled, left_by, words};
 use cml_host::{Store, run_command};
+use cml_memory::MemoryStore;
 use std::alloc::Global;
 use std::io::{Error, ErrorKind, Read, Result as IoResult, Write};
 use std::test::Fail;
 
-// Traces with the text that answers them.
-const TRACES: &[(&str, &str)] = &[
-    (
-        "spawn
-spawn
-chan
-sync 0 (send 0 5)
-sync 1 (recv 0)
-rows
-commit 0 0 1 0
-rows
-",
-        "thread 0
-thread 1
-chan 0
-ok
-ok
-rows 1
-row 0 0 1 0
-resume 0 ()
-resume 1 5
-fired
-rows 0
-",
-    ),
-    (
-        "spawn
-mchan
-port 0
-multicast 0 1
-multicast 0 2
-copy 0
-port 0
-sync 0 (portrecv 0)
-commit 0 0
-sync 0 (portrecv 1)
-commit 0 0
-sync 0 (portrecv 0)
-commit 0 0
-sync 0 (portrecv 1)
-commit 0 0
-sync 0 (portrecv 2)
-rows
-",
-        "thread 0
-mchan 0
-port 0
-ok
-ok
-port 1
-port 2
-ok
-resume 0 1
-fired
-ok
-resume 0 1
-fired
-ok
-resume 0 2
-fired
-ok
-resume 0 2
-fired
-ok
-rows 0
-",
-    ),
+// Traces: a value goes over a channel, and messages come to ports.
+const TRACES: &[&str] = &[
+    "spawn\nspawn\nchan\nsync 0 (send 0 5)\nsync 1 (recv 0)\nrows\ncommit 0 0 1 0\nrows\n",
+    "spawn\nmchan\nport 0\nmulticast 0 1\nmulticast 0 2\ncopy 0\nport 0\nsync 0 (portrecv 0)\ncommit 0 0\nsync 0 (portrecv 1)\ncommit 0 0\nsync 0 (portrecv 0)\ncommit 0 0\nsync 0 (portrecv 1)\ncommit 0 0\nsync 0 (portrecv 2)\nrows\n",
 ];
 
-// Arguments over a file with the script `(fn main () (print 007))`, and what is written.
-const COMMANDS: &[(&str, &str)] = &[
-    ("check F", "ok functions 1\n"),
-    ("fmt F", "(fn main () (print 7))\n"),
-    ("run F", "7\nend quiet pending 0\n"),
-    ("--help", HELP),
-];
+// What is written to the errors at the first read that fails.
+const UNREAD: (&[u8], &str, u8) = (b"", "cannot read input\n", 1);
+
+// Arguments over a file with this script.
+const COMMANDS: &[&str] = &["check F", "fmt F", "run F", "--help"];
+
+const SCRIPT: &str = "(fn main () (print 007))";
 
 /// A reader that gives a byte at a time, and is interrupted before each. One read fails, after this many good ones; those after it don't.
 #[derive(Drop)]
@@ -202,30 +138,44 @@ pub fn taking_all(alloc: Global) -> Narrow {
     taking(alloc, usize::MAX, false)
 }
 
+// What is written in answer to these arguments where nothing fails.
+fn whole(rt: &impl Runtime, line: &str, text: &'static str) -> Result<Vec<u8>, Fail> {
+    let mut store = filled(rt, &[("F", text)]);
+    let left = left_by(rt, line, text, &mut store)?;
+    assert!(rt;
+        left.status == 0 && left.errors.is_empty() && !left.output.is_empty(),
+        "{line}"
+    );
+    drop(store);
+    Ok(left.output)
+}
+
 #[test]
 fn each_read_fails(rt: HostRuntime) -> Result<(), Fail> {
     let alloc = rt.alloc();
-    for (input, output) in TRACES {
-        let all = input.len();
-        for reads in 0..all {
-            let out = taking_all(alloc);
-            let expected = (b"".as_slice(), "cannot read input\n", 1);
-            ends(&rt, ("trace", input), reads, out, expected)?;
+    for &input in TRACES {
+        let output = whole(&rt, "trace", input)?;
+        for reads in 0..=input.len() {
+            ends(&rt, ("trace", input), reads, taking_all(alloc), UNREAD)?;
         }
-        let out = taking_all(alloc);
-        let expected = (b"".as_slice(), "cannot read input\n", 1);
-        ends(&rt, ("trace", input), all, out, expected)?;
-        let out = taking_all(alloc);
-        let expected = (output.as_bytes(), "", 0);
-        ends(&rt, ("trace", input), usize::MAX, out, expected)?;
+        let expected = (output.as_slice(), "", 0);
+        ends(
+            &rt,
+            ("trace", input),
+            usize::MAX,
+            taking_all(alloc),
+            expected,
+        )?;
+        drop(output);
     }
     Ok(())
 }
 
 // Each write of what is written in answer to these arguments fails in turn, or takes nothing.
-fn writes_fail(rt: &impl Runtime, line: &str, input: &str, output: &str) -> Result<(), Fail> {
+fn writes_fail(rt: &impl Runtime, line: &str, input: &'static str) -> Result<(), Fail> {
     let alloc = rt.alloc();
-    let text = output.as_bytes();
+    let output = whole(rt, line, input)?;
+    let text = output.as_slice();
     for writes in 0..text.len() {
         for takes_nothing in [false, true] {
             let out = taking(alloc, writes, takes_nothing);
@@ -234,16 +184,18 @@ fn writes_fail(rt: &impl Runtime, line: &str, input: &str, output: &str) -> Resu
         }
     }
     let out = taking(alloc, text.len(), false);
-    ends(rt, (line, input), usize::MAX, out, (text, "", 0))
+    ends(rt, (line, input), usize::MAX, out, (text, "", 0))?;
+    drop(output);
+    Ok(())
 }
 
 #[test]
 fn each_write_fails(rt: HostRuntime) -> Result<(), Fail> {
-    for &(input, output) in TRACES {
-        writes_fail(&rt, "trace", input, output)?;
+    for &input in TRACES {
+        writes_fail(&rt, "trace", input)?;
     }
-    for &(line, output) in COMMANDS {
-        writes_fail(&rt, line, "(fn main () (print 007))", output)?;
+    for &line in COMMANDS {
+        writes_fail(&rt, line, SCRIPT)?;
     }
     Ok(())
 }

@@ -1,7 +1,6 @@
 //! Scripts that workers run, seen from the gate through which each slice goes: there are as many workers as the arguments say.
 
-use crate::run::{Runtime, words};
-use crate::script_run::filled;
+use crate::run::{Runtime, filled, words};
 use cml_host::run_command_counted;
 use cml_stream::Counting;
 use cml_value::Tid;

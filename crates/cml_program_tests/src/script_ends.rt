@@ -1,7 +1,7 @@
 //! Schedules that are cut off, and random bytes in the place of scripts and schedules.
 
-use crate::run::{Left, RandomTexts, Runtime, left_by};
-use crate::script_run::{ADDED, ADDITION, filled};
+use crate::random::RandomTexts;
+use crate::run::{ADDED, ADDITION, Left, Runtime, filled, left_by};
 use cml_host::Store;
 use std::test::Fail;
 

@@ -1,8 +1,7 @@
 //! Runs of which a write fails, or the save of the schedule: what was written before it stands, and nothing comes after but what went wrong.
 
 use crate::faults::{Narrow, taking, taking_all};
-use crate::run::{Runtime, words};
-use crate::script_run::{ADDITION, filled};
+use crate::run::{ADDITION, Runtime, filled, words};
 use cml_host::{Store, StoreFault, run_command};
 use std::process::Abort;
 use std::test::Fail;

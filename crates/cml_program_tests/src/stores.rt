@@ -1,7 +1,7 @@
 //! The store in memory.
 
-use crate::memory_store::MemoryStore;
 use cml_host::{Reason, Store, StoreFault};
+use cml_memory::MemoryStore;
 use std::test::Fail;
 
 // A name, a limit, and what is handed over.

@@ -1,123 +1,16 @@
-//! Scripts that workers run: what they write, and that their schedules lead to the same again.
+//! Scripts that workers run: their schedules lead to the same again.
 
-use crate::memory_store::MemoryStore;
-use crate::run::{Runtime, left_by};
-use crate::script_run::{
-    ADDITION, BY_FOUR, CANCELLED, CANCELLED_WATCHED, COUNTER, Case, PLAIN, SWAPPED, all_come_out,
-    filled,
-};
+use crate::run::{ADDITION, CANCELLED, COUNTER, Runtime, SWAPPED, filled, left_by};
 use cml_host::Store;
 use std::test::Fail;
 
-// One thread that never ends.
-const SPINNING: &str = "(fn main () (while true (yield)))";
-
 // A thread that waits for a time.
 const WAITING: &str = "(fn main () (sync (after 10)) (let t (now)) (print t))";
-
-// A thread that waits for ever.
-const STUCK: &str = "(fn main () (let c (chan)) (sync (recv c)))";
-
-// A thread that ends at a fault.
-const FAULTY: &str = "(fn main () (let i (ivar)) (iput i 1) (iput i 2))";
 
 // Many threads that work between their synchronizations.
 const WORKING: &str =
     "(fn work (box n) (let i 0) (while (< i 500) (set i (+ i 1))) (sync (always unit)) (mail box n)) \
      (fn main () (let box (mailbox)) (let n 0) (while (< n 8) (spawn work box n) (set n (+ n 1))) (let sum 0) (while (< 0 n) (let x (sync (mailrecv box))) (set sum (+ sum x)) (set n (- n 1))) (print sum))";
-
-// Scripts that write the same whichever thread comes first.
-const CASES: &[Case] = &[
-    Case {
-        name: "addition-by-one-worker",
-        words: "run A --workers 1",
-        files: &[("A", ADDITION)],
-        output: "42\nend quiet pending 0\n",
-        ..PLAIN
-    },
-    Case {
-        name: "addition-by-four-workers",
-        files: &[("A", ADDITION)],
-        output: "42\nend quiet pending 0\n",
-        ..BY_FOUR
-    },
-    Case {
-        name: "counter-by-one-worker",
-        words: "run A --workers 1",
-        files: &[("A", COUNTER)],
-        output: "2\nend quiet pending 0\n",
-        ..PLAIN
-    },
-    Case {
-        name: "counter-by-four-workers",
-        files: &[("A", COUNTER)],
-        output: "2\nend quiet pending 0\n",
-        ..BY_FOUR
-    },
-    Case {
-        name: "counter-by-sixty-four-workers",
-        words: "run A --workers 64 --seed 7",
-        files: &[("A", COUNTER)],
-        output: "2\nend quiet pending 0\n",
-        ..PLAIN
-    },
-    Case {
-        name: "cancelled-branch-watched-by-one-worker",
-        words: "run A --workers 1 --watch 5",
-        files: &[("A", CANCELLED)],
-        output: "7\ncancelled\nend quiet pending 0\n",
-        errors: CANCELLED_WATCHED,
-        ..PLAIN
-    },
-    Case {
-        name: "spinning-by-four-workers",
-        words: "run A --workers 4 --steps 100 --watch 20",
-        files: &[("A", SPINNING)],
-        output: "end budget pending 0\n",
-        errors: "report 20 rows 0 waiting 0\nreport 40 rows 0 waiting 0\n",
-        status: 4,
-        ..PLAIN
-    },
-    Case {
-        name: "timeout-by-four-workers",
-        words: "run A --workers 4 --watch 2",
-        files: &[("A", WAITING)],
-        output: "10\nend quiet pending 0\n",
-        errors: "report 2 rows 1 waiting 1\nrow 0 0\nwait 0\nreport 4 rows 0 waiting 0\nreport 6 rows 0 waiting 0\n",
-        ..PLAIN
-    },
-    Case {
-        name: "waits-for-ever-by-four-workers",
-        files: &[("A", STUCK)],
-        output: "end quiet pending 1\n",
-        ..BY_FOUR
-    },
-    Case {
-        name: "fault-by-four-workers",
-        files: &[("A", FAULTY)],
-        output: "thread 0 fault put\nend quiet pending 0\n",
-        ..BY_FOUR
-    },
-    Case {
-        name: "work-by-four-workers",
-        files: &[("A", WORKING)],
-        output: "28\nend quiet pending 0\n",
-        ..BY_FOUR
-    },
-    Case {
-        name: "no-such-script-for-workers",
-        words: "run B --workers 4 --watch 1 --record S",
-        files: &[("A", ADDITION)],
-        errors: "cannot read B\n",
-        status: 1,
-        ..PLAIN
-    },
-];
-
-#[test]
-fn workers_write_what_one_thread_does(rt: HostRuntime) -> Result<(), Fail> {
-    all_come_out(&rt, CASES)
-}
 
 // Arguments to run the script in A with, and to replay what was recorded.
 const RECORDED: &[(&str, &str)] = &[
@@ -153,13 +46,15 @@ fn leads_again(
     let mut store = filled(rt, &[("A", script)]);
     let ran = left_by(rt, run, "", &mut store)?;
     let again = left_by(rt, replay, "", &mut store)?;
-    again.is_bytes(
-        rt,
-        run,
-        ran.output.as_slice(),
-        ran.errors.as_slice(),
-        ran.status,
+    assert!(rt;
+        again.output.as_slice() == ran.output.as_slice(),
+        "output of {run}"
     );
+    assert!(rt;
+        again.errors.as_slice() == ran.errors.as_slice(),
+        "errors of {run}"
+    );
+    assert!(rt; again.status == ran.status, "status of {run}");
     if run.contains("--watch 5") {
         match store.load(rt.alloc(), "S", 1_000_000) {
             Ok(schedule) => {
