@@ -1,5 +1,7 @@
 //! Books over both tables, in what only a caller of the library can ask, and the tables by themselves.
 
+ghost use Rattle.std.specs.Prelude.{◌≡◌, []};
+
 use crate::lines::{halves, number, numbers, say};
 use crate::making::{MEMORY, group};
 use crate::scans::light_of;
@@ -467,7 +469,9 @@ fn one_line<T: Table>(
 }
 
 // Each line of the case is answered so by a book over the table.
-fn goes_so<T: Table + Drop>(rt: &(impl Abort + AllocGlobal), table: T, case: &str) {
+fn goes_so<T: Table + Drop>(rt: &(impl Abort + AllocGlobal), table: T, case: &str)
+    requires { T.entries table ≡ [] }
+{
     let mut book = Book::new(rt.alloc(), table);
     for line in case.lines() {
         match line.split_once(" => ") {

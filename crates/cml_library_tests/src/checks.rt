@@ -97,9 +97,10 @@ fn has(rt: &(impl Abort + AllocGlobal), program: &Prog, arities: &[u32]) {
     assert!(rt; program.functions() == arities.len());
     let mut main = None;
     for func in 0..arities.len() {
-        assert!(rt; program.arity(func as u32) == Some(arities[func]));
+        let number = u32::try_from(func).expect(rt, "a number of a function");
+        assert!(rt; program.arity(number) == Some(arities[func]));
         if arities[func] == 0 && main.is_none() {
-            main = Some(func as u32);
+            main = Some(number);
         }
     }
     assert!(rt; program.arity(arities.len() as u32).is_none());

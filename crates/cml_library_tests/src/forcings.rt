@@ -135,7 +135,11 @@ fn forcings_ask_from_the_left(rt: HostRuntime) {
 fn is_measured(rt: &(impl Abort + AllocGlobal), depth: u32) {
     let event = nested(rt, "(guard 7)", 3);
     let mut forcing = Forcing::start(rt.alloc(), event).expect(rt, MEMORY);
-    let answered = put(rt, &mut forcing, nested(rt, "never", depth - 1));
+    let answered = put(
+        rt,
+        &mut forcing,
+        nested(rt, "never", depth.saturating_sub(1)),
+    );
     assert!(rt; answered.is_ok() == (depth <= 61), "the whole is measured");
     assert!(rt;
         matches!(&answered, Err(ForceFault::Deep(_))) == (depth > 61),
