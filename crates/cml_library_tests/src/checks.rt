@@ -103,7 +103,8 @@ fn has(rt: &(impl Abort + AllocGlobal), program: &Prog, arities: &[u32]) {
             main = Some(number);
         }
     }
-    assert!(rt; program.arity(arities.len() as u32).is_none());
+    let past = u32::try_from(arities.len()).expect(rt, "few functions");
+    assert!(rt; program.arity(past).is_none());
     assert!(rt; main == Some(program.main()));
     let copy = program.copy().expect(rt, MEMORY);
     assert!(rt; copy.same(program));
