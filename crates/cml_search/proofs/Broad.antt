@@ -1,13 +1,13 @@
 -- A search that goes breadth first comes to each state by the fewest items.
-use Rattle.std.proofs.Common.{◌≡◌, ℕ, zero, suc, ◌+◌, ◌<◌, ◌≤◌, Bool, true, false, List, [], ◌∷◌, ◌++◌, length, Option, None, Some, slice_get, Contains, ◌⊎◌, inl, inr, refl, ap, sym, subst, ◌∙◌, arith, length-append, true≢false}
+use Rattle.std.proofs.Common.{◌≡◌, ℕ, zero, suc, ◌+◌, ◌<◌, ◌≤◌, Bool, true, List, [], ◌∷◌, ◌++◌, length, Option, None, Some, slice_get, Contains, ◌⊎◌, inl, inr, refl, ap, sym, subst, ◌∙◌, arith, length-append}
 use Rattle.std.specs.Prelude.{IfSome, nat_lt, if◌then◌else◌}
 use Rattle.std.specs.List.{All}
 use Rattle.std.proofs.lemmas.Bool.Decides.{nat_tests}
 use Rattle.std.proofs.lemmas.List.Elements.{All-nil, All-cons, All-push, All-weaker, All-contains}
 use Rattle.std.proofs.lemmas.Option.{slice_get_within, get_or_from_slice_get, same_Some, IfSome_then}
 use Rattle.cml_search.specs.Systems.{System, run, IsReached, IsTerminal, IsLawful}
-use Rattle.cml_search.specs.Searches.{Depths, IsTrail, Keeps, IsOnce, AreEnough, LeadsNear, IsFollowedNear, IsBroad, IsSearch, IsSought, IsShortest}
-use Rattle.cml_search.proofs.Runs.{at_some, begins, reached_next}
+use Rattle.cml_search.specs.Searches.{Depths, IsTrail, Keeps, AreEnough, LeadsNear, IsFollowedNear, IsBroad, IsSearch, IsSought, StandsBefore, AreFewest}
+use Rattle.cml_search.proofs.Runs.{at_some, begins}
 use Rattle.cml_search.proofs.Places.{get_front, get_end, get_push_cases, all_at, place_of, either_way}
 use Rattle.cml_search.proofs.Quiet.{comes_first}
 
@@ -249,32 +249,24 @@ module _ {S I : Type 0} (y : System S I) where
       | inr e ↦ e
     ]
 
-    -- no schedule that leads to the state at a place has fewer items than its depth
-    pub no_fewer : (p : ℕ) (s : S) → slice_get states p ≡ Some s → (others : List I) → IsSought y quietly others s → b.depth p ≤ length others
-    no_fewer p s stands others sought = elim (either_way (b.depth p) (length others)) [
-      | inl e ↦ e
-      | inr e ↦
-          let p_in : p < length states = slice_get_within states p s stands in
-          let start : b.depth 0 ≡ 0 = b.counts.start in
-          let f = ends_near (length others) (covered (length others) p p_in e) (length others) others 0 y.start s refl (omega (arith, start)) keeps.trail.start sought.0 sought.1 in
-          let same : f.0 ≡ p = keeps.once f.0 p s f.1 stands in
-          let there : b.depth f.0 ≡ b.depth p = ap b.depth same in
-          absurd (omega (arith, f.2, there, start, e))
-    ]
+    -- what fewer items lead to than to a place stands before it
+    pub stands_before : (p : ℕ) → p < length states → (others : List I) (s : S) → IsSought y quietly others s → length others < b.depth p → StandsBefore states p s
+    stands_before p p_in others s sought fewer =
+        let start : b.depth 0 ≡ 0 = b.counts.start in
+        let f = ends_near (length others) (covered (length others) p p_in fewer) (length others) others 0 y.start s refl (omega (arith, start)) keeps.trail.start sought.0 sought.1 in
+        let inside : f.0 < length states = slice_get_within states f.0 s f.1 in
+        elim (either_way p f.0) [
+          | inl e ↦ let most = f.2 in let after = b.order p f.0 e inside in absurd (omega (arith, most, start, after, fewer))
+          | inr e ↦ (f.0, e, f.1)
+        ]
 
 module _ {S I : Type 0} (y : System S I) (lawful : IsLawful y) (quietly : Bool) (followed : ℕ) (states : List S) (origins : List (ℕ × I)) (found : IsSearch y quietly followed states origins) where
-  -- items that go back from a place to the start are the fewest that lead to it
-  pub shortest_at : (place : ℕ) (back items : List I) → length items ≡ length back → (at : ℕ) → at ≡ 0
-      → ((d : ℕ → ℕ) → Depths origins d → length back + d at ≡ d place) → IfSome (slice_get states place) (IsShortest y quietly items)
-  shortest_at place back items same at zero_is counts = by (slice_get states place) refl
-    where
-      by : (o : Option S) → slice_get states place ≡ o → IfSome o (IsShortest y quietly items)
-      by None e = tt
-      by (Some s) e =
-          let b = found.broad in
-          let whole : length back + b.depth at ≡ b.depth place = counts b.depth b.counts in
-          let start : b.depth at ≡ 0 = ap b.depth zero_is ∙ b.counts.start in
-          λ others sought. omega (arith, same, whole, start, no_fewer y lawful quietly followed states origins found.keeps b place s e others sought)
+  -- items that are as many as lead to a place are the fewest
+  pub fewest_at : (place : ℕ) (items : List I) → place < length states → ((d : ℕ → ℕ) → Depths origins d → length items ≡ d place) → AreFewest y quietly states place items
+  fewest_at place items in' counts others s sought fewer =
+      let b = found.broad in
+      let deep : length items ≡ b.depth place = counts b.depth b.counts in
+      stands_before y lawful quietly followed states origins found.keeps b place in' others s sought (omega (arith, deep, fewer))
 
   -- what so few items lead to as to the first state that was not followed was found
   pub found_within : followed < length states → (count at : ℕ) → at ≡ 0 → ((d : ℕ → ℕ) → Depths origins d → count + d at ≡ d followed)
@@ -301,7 +293,6 @@ begins_broad {S} {I} y quietly =
       keeps = record {
         trail = record { start = refl; lengths = refl; before = λ k o h. absurd (nothing k o h); came = λ k o h. absurd (nothing k o h) };
         reached = All-cons (IsReached y) y.start [] ([], refl) (All-nil (IsReached y));
-        once = λ j k s a b. omega (arith, slice_get_within (y.start ∷ []) j s a, slice_get_within (y.start ∷ []) k s b);
       };
       broad = record {
         depth = λ k. k;

@@ -13,6 +13,10 @@ pub both_ok : {X E : Type 0} {P Q R : X → Type 0} (r : Result X E) → IfOk r 
 both_ok (Ok x) p q f = f x p q
 both_ok (Err e) p q f = tt
 
+pub one_ok : {X E : Type 0} {P R : X → Type 0} (r : Result X E) → IfOk r P → ((x : X) → P x → R x) → IfOk r R
+one_ok (Ok x) p f = f x p
+one_ok (Err e) p f = tt
+
 module _ {S I : Type 0} (y : System S I) (lawful : IsLawful y) (seen : List S) (origins : List (ℕ × I)) (keeps : Keeps y seen origins) where
   starts : Contains seen y.start
   starts = (0, slice_get_within seen 0 y.start keeps.trail.start, get_or_from_slice_get seen 0 y.start y.start keeps.trail.start)

@@ -6,7 +6,7 @@ use Rattle.std.proofs.lemmas.Option.{slice_get_within}
 use Rattle.cml_search.specs.Systems.{System, IsReached, LeadsInto}
 use Rattle.cml_search.specs.Searches.{IsTrail, Keeps}
 use Rattle.cml_search.proofs.Runs.{reached_next}
-use Rattle.cml_search.proofs.Places.{get_front, get_end, get_push_cases, all_at, once_push}
+use Rattle.cml_search.proofs.Places.{get_front, get_end, get_push_cases, all_at}
 
 module _ {S I : Type 0} (y : System S I) (states : List S) (origins : List (ℕ × I)) (at : ℕ) (i : I) (s next : S)
     (stands : slice_get states at ≡ Some s) (steps : y.step s i ≡ Some next) where
@@ -43,22 +43,16 @@ module _ {S I : Type 0} (y : System S I) (states : List S) (origins : List (ℕ 
           subst Came h.1
           (ap (λ p. option_and_then (λ u. y.step u i) p) (get_front states (next ∷ []) at within ∙ stands) ∙ (steps ∙ sym (get_end states next (k + 1) last)))
 
-  keeps_on : (Contains states next → ⊥) → Keeps y states origins → Keeps y (states ++ next ∷ []) (origins ++ (at, i) ∷ [])
-  keeps_on fresh k = record {
+  keeps_on : Keeps y states origins → Keeps y (states ++ next ∷ []) (origins ++ (at, i) ∷ [])
+  keeps_on k = record {
     trail = trail_on k.trail;
     reached = All-push (IsReached y) states next k.reached (reached_next y s i next (all_at (IsReached y) states at s k.reached stands) steps);
-    once = once_push states next fresh k.once;
   }
 
   -- the state was new
-  pub keeps_new : (after : List S) (from : List (ℕ × I)) → after ≡ states ++ next ∷ [] → from ≡ origins ++ (at, i) ∷ [] → (Contains states next → ⊥) → Keeps y states origins
-      → Keeps y after from
-  keeps_new after from e f fresh k = subst (λ l. Keeps y l from) (sym e) (subst (λ l. Keeps y (states ++ next ∷ []) l) (sym f) (keeps_on fresh k))
+  pub keeps_new : (after : List S) (from : List (ℕ × I)) → after ≡ states ++ next ∷ [] → from ≡ origins ++ (at, i) ∷ [] → Keeps y states origins → Keeps y after from
+  keeps_new after from e f k = subst (λ l. Keeps y l from) (sym e) (subst (λ l. Keeps y (states ++ next ∷ []) l) (sym f) (keeps_on k))
 
   -- the item leads into the states after it
-  pub leads_on : (after : List S) → Contains after next → IfSome (slice_get states at) (λ u. LeadsInto y after u i)
-  leads_on after has =
-      let At : Option S → Type 0 = λ o. IfSome o (λ u. LeadsInto y after u i) in
-      let Next : Option S → Type 0 = λ o. IfSome o (Contains after) in
-      let there : LeadsInto y after s i = subst Next (sym steps) has in
-      subst At (sym stands) there
+  pub leads_on : (after : List S) → Contains after next → LeadsInto y after s i
+  leads_on after has = let Next : Option S → Type 0 = λ o. IfSome o (Contains after) in subst Next (sym steps) has

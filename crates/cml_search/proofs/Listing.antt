@@ -1,10 +1,10 @@
 -- The ends among the states, one place on.
-use Rattle.std.proofs.Common.{◌≡◌, ℕ, ◌<◌, ◌+◌, List, [], ◌∷◌, ◌++◌, length, Option, None, Some, Contains, slice_get, refl, sym, subst, arith, below_more}
+use Rattle.std.proofs.Common.{◌≡◌, ℕ, ◌<◌, ◌+◌, List, [], ◌∷◌, ◌++◌, length, Option, None, Some, Contains, slice_get, refl, sym, subst, ◌∙◌, arith, below_more}
 use Rattle.std.specs.Prelude.{IfSome}
 use Rattle.std.specs.List.{All}
 use Rattle.std.proofs.lemmas.List.Elements.{All-push, Contains-append_left, Contains-push}
 use Rattle.std.proofs.lemmas.Option.{IfSome_then, slice_get_within}
-use Rattle.cml_search.specs.Systems.{System, IsTerminal}
+use Rattle.cml_search.specs.Systems.{System, IsTerminal, LeadsTo, run}
 
 for_each : {X : Type 0} {P : X → Type 0} (o : Option X) → ((x : X) → P x) → IfSome o P
 for_each None f = tt
@@ -46,3 +46,14 @@ module _ {S I : Type 0} (y : System S I) (states : List S) where
           let in' : j < length states = slice_get_within states j s h in
           let below : j < n = omega arith in
           subst At h (all j below)
+
+  -- where nothing is allowed the state at a place is an end; where something is, it is none
+  module _ (place : ℕ) (schedule items : List I) (leads : run y y.start schedule ≡ slice_get states place) (lists : LeadsTo y schedule (λ s. items ≡ y.allowed s)) where
+    stands : slice_get states place ≡ Some lists.0
+    stands = sym leads ∙ lists.1
+
+    pub is_end_at : items ≡ [] → IfSome (slice_get states place) (IsTerminal y)
+    is_end_at e = let At : Option S → Type 0 = λ o. IfSome o (IsTerminal y) in subst At (sym stands) (sym lists.2 ∙ e)
+
+    pub no_end_at : (items ≡ [] → ⊥) → IfSome (slice_get states place) (λ s. IsTerminal y s → ⊥)
+    no_end_at n = let At : Option S → Type 0 = λ o. IfSome o (λ s. IsTerminal y s → ⊥) in subst At (sym stands) (λ t. n (lists.2 ∙ t))

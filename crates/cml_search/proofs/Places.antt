@@ -1,14 +1,11 @@
 -- Places in lists that grow at the end.
-use Rattle.std.proofs.Common.{◌≡◌, ℕ, zero, suc, ◌+◌, ◌<◌, ◌≤◌, Bool, true, false, not, List, [], ◌∷◌, ◌++◌, length, take, get_or, None, Some, slice_get, Contains, ◌⊎◌, inl, inr, refl, ap, sym, subst, ◌∙◌, arith, true≢false}
-use Rattle.std.specs.Prelude.{if◌then◌else◌}
+use Rattle.std.proofs.Common.{◌≡◌, ℕ, zero, suc, ◌+◌, ◌<◌, ◌≤◌, Bool, true, false, not, List, [], ◌∷◌, ◌++◌, length, map, take, get_or, None, Some, slice_get, Contains, ◌⊎◌, inl, inr, refl, ap, sym, subst, ◌∙◌, arith, true≢false}
+use Rattle.std.specs.Prelude.{if◌then◌else◌, option_map}
 use Rattle.std.specs.List.{All, list_any}
-use Rattle.std.proofs.lemmas.Option.{slice_get_within, get_or_from_slice_get, slice_get_read, same_Some}
-use Rattle.std.specs.Cmp.{IsEquivalence}
+use Rattle.std.proofs.lemmas.Option.{slice_get_within, get_or_from_slice_get, slice_get_read, slice_get-map, same_Some}
 use Rattle.std.proofs.lemmas.Bool.Decides.{leb_tells}
-use Rattle.std.proofs.lemmas.List.{take_more}
-use Rattle.std.proofs.lemmas.Map.Views.{list_any-from_Contains}
+use Rattle.std.proofs.lemmas.List.{take_more, map-append}
 use Rattle.indexmap.specs.IndexSet.{insert_key}
-use Rattle.cml_search.specs.Searches.{IsOnce}
 
 -- a place in the front
 pub get_front : {X : Type 0} (xs ys : List X) (k : ℕ) → k < length xs → slice_get (xs ++ ys) k ≡ slice_get xs k
@@ -61,25 +58,21 @@ read_through xs keys at x e h r = slice_get_read keys (length keys) at x refl h 
 pub place_of : {X : Type 0} (xs : List X) (x : X) (c : Contains xs x) → slice_get xs c.0 ≡ Some x
 place_of xs x c = slice_get_read xs (length xs) c.0 x refl c.1 (sym c.2)
 
--- a state that is new is added, and still none stands at two places
-pub once_push : {X : Type 0} (xs : List X) (x : X) → (Contains xs x → ⊥) → IsOnce xs → IsOnce (xs ++ x ∷ [])
-once_push {X = X} xs x fresh once j k s at_j at_k = by (get_push_cases xs x j s at_j) (get_push_cases xs x k s at_k)
-  where
-    Case : ℕ → Type 0
-    Case n = (slice_get xs n ≡ Some s) ⊎ ((n ≡ length xs) × (x ≡ s))
+-- what is kept, as the states of which it is kept
+module _ {K S : Type 0} (f : K → S) where
+  pub mapped_last : (keys after : List K) (k : K) → after ≡ keys ++ k ∷ [] → map f after ≡ map f keys ++ f k ∷ []
+  mapped_last keys after k e = ap (map f) e ∙ map-append f keys (k ∷ [])
 
-    there : (n : ℕ) → slice_get xs n ≡ Some s → x ≡ s → ⊥
-    there n h e = fresh (n, slice_get_within xs n s h, get_or_from_slice_get xs n x x (h ∙ ap (λ u. Some u) (sym e)))
+  pub mapped_has : (keys : List K) (k : K) → Contains keys k → Contains (map f keys) (f k)
+  mapped_has keys k c =
+      let at : slice_get (map f keys) c.0 ≡ Some (f k) = slice_get-map f keys c.0 ∙ ap (option_map f) (place_of keys k c) in
+      (c.0, slice_get_within (map f keys) c.0 (f k) at, get_or_from_slice_get (map f keys) c.0 (f k) (f k) at)
 
-    by : Case j → Case k → j ≡ k
-    by (inl a) (inl b) = once j k s a b
-    by (inl a) (inr b) = absurd (there j a b.1)
-    by (inr a) (inl b) = absurd (there k b a.1)
-    by (inr a) (inr b) = a.0 ∙ sym b.0
-
--- a key that was new is not among the keys
-pub is_fresh : {K : Type 0} (eq : K → K → Bool) → IsEquivalence eq → (keys : List K) (k : K) (new : Bool) → new ≡ not (list_any (eq k) keys) → new ≡ true → Contains keys k → ⊥
-is_fresh eq laws keys k new added e has = true≢false (sym e ∙ added ∙ ap not (list_any-from_Contains laws k keys has))
+-- what stands at a place that is there
+pub there : {X : Type 0} (xs : List X) (k : ℕ) → k < length xs → (x : X) × (slice_get xs k ≡ Some x)
+there [] k h = absurd (omega (arith, h))
+there (x ∷ xs) zero h = (x, refl)
+there (x ∷ xs) (suc k) h = there xs k (omega (arith, h))
 
 -- one element more of a list
 pub take_one : {X : Type 0} (xs : List X) (k : ℕ) (x : X) → k < length xs → x ≡ get_or xs k x → take (k + 1) xs ≡ take k xs ++ x ∷ []

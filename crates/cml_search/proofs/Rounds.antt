@@ -1,17 +1,13 @@
 -- All items of a state, and all states.
-use Rattle.std.proofs.Common.{◌≡◌, ℕ, ◌+◌, ◌<◌, ◌≤◌, Bool, true, false, List, [], ◌∷◌, ◌++◌, length, take, get_or, Option, None, Some, slice_get, Contains, ◌⊎◌, inl, inr, ap, sym, subst, ◌∙◌, arith, length-append, append_assoc, true≢false}
+use Rattle.std.proofs.Common.{◌≡◌, ℕ, ◌+◌, ◌<◌, ◌≤◌, Bool, true, false, List, [], ◌∷◌, ◌++◌, length, take, get_or, Option, Some, slice_get, Contains, ◌⊎◌, inl, inr, ap, sym, subst, ◌∙◌, arith, length-append, append_assoc, true≢false}
 use Rattle.std.specs.Prelude.{IfSome, IsSome}
 use Rattle.std.specs.List.{All}
 use Rattle.std.proofs.lemmas.List.{take-append-le}
 use Rattle.std.proofs.lemmas.List.Elements.{All-nil, All-cons, All-more, All-weaker, Contains-append_left}
-use Rattle.std.proofs.lemmas.Option.{slice_get_within, get_or_from_slice_get, IfSome_then}
-use Rattle.cml_search.specs.Systems.{System, IsReached, IsLawful, LeadsInto, IsFollowed, IsFollowedQuietly}
+use Rattle.std.proofs.lemmas.Option.{slice_get_within, get_or_from_slice_get, IfSome_then, same_Some}
+use Rattle.cml_search.specs.Systems.{System, run, LeadsTo, IsReached, IsLawful, LeadsInto, IsFollowed, IsFollowedQuietly}
 use Rattle.cml_search.specs.Searches.{IsLonger, AreEnough, WasFollowed}
 use Rattle.cml_search.proofs.Places.{get_front}
-
-pub both_some : {X : Type 0} {P Q R : X → Type 0} (o : Option X) → IfSome o P → IfSome o Q → ((x : X) → P x → Q x → R x) → IfSome o R
-both_some None p q f = tt
-both_some (Some x) p q f = f x p q
 
 module _ {S : Type 0} where
   pub longer_trans : (a b c : List S) → IsLonger a b → IsLonger b c → IsLonger a c
@@ -32,22 +28,11 @@ module _ {S I : Type 0} (y : System S I) where
   followed_longer quietly old new s l (inr q) = inr (q.0, record { turn = q.1.turn; quiet = q.1.quiet; leads = leads_longer old new s q.1.turn l q.1.leads })
 
   -- one item more of a state
-  pub leads_more : (at : ℕ) (old mid new : List S) (items : List I) (k : ℕ) (item : I)
-      → IfSome (slice_get old at) (λ s. All (LeadsInto y mid s) (take k items)) → IsLonger mid new → IfSome (slice_get mid at) (λ s. LeadsInto y new s item)
-      → slice_get mid at ≡ slice_get old at → k < length items → item ≡ get_or items k item → IfSome (slice_get old at) (λ s. All (LeadsInto y new s) (take (k + 1) items))
-  leads_more at old mid new items k item before l here same in' is =
-      let Here : Option S → Type 0 = λ o. IfSome o (λ s. LeadsInto y new s item) in
-      both_some (slice_get old at) before (subst Here same here)
-      (λ s all one.
-      All-more (LeadsInto y new s) items k item in' (All-weaker (LeadsInto y mid s) (LeadsInto y new s) (λ i h. leads_longer mid new s i l h) (take k items) all)
-      (subst (LeadsInto y new s) is one))
-
-  -- an item among those that can be taken
-  pub can_one : (at : ℕ) (old mid : List S) (items : List I) (k : ℕ) (item : I) → IfSome (slice_get old at) (λ s. All (λ i. IsSome (y.step s i)) items)
-      → slice_get mid at ≡ slice_get old at → k < length items → item ≡ get_or items k item → IfSome (slice_get mid at) (λ s. IsSome (y.step s item))
-  can_one at old mid items k item can same in' is =
-      let Here : Option S → Type 0 = λ o. IfSome o (λ s. IsSome (y.step s item)) in
-      subst Here (sym same) (IfSome_then (slice_get old at) can (λ s all. subst (λ i. IsSome (y.step s i)) (sym is) (all k item in')))
+  pub leads_more : (mid new : List S) (s : S) (items : List I) (k : ℕ) (item : I) → All (LeadsInto y mid s) (take k items) → IsLonger mid new → LeadsInto y new s item
+      → k < length items → item ≡ get_or items k item → All (LeadsInto y new s) (take (k + 1) items)
+  leads_more mid new s items k item before l one in' is =
+      All-more (LeadsInto y new s) items k item in' (All-weaker (LeadsInto y mid s) (LeadsInto y new s) (λ i h. leads_longer mid new s i l h) (take k items) before)
+      (subst (LeadsInto y new s) is one)
 
   -- enough items can all be taken
   pub can_all : IsLawful y → (quietly : Bool) (s : S) (items : List I) → IsReached y s → AreEnough y quietly s items → All (λ i. IsSome (y.step s i)) items
@@ -62,21 +47,32 @@ module _ {S I : Type 0} (y : System S I) where
       let one : All (LeadsInto y seen s) (q.0 ∷ []) = subst (All (LeadsInto y seen s)) q.3 h in
       inr (q.1, record { turn = q.0; quiet = q.2; leads = one 0 q.0 (omega arith) })
 
+  -- the same of where a schedule leads
+  pub can_here : IsLawful y → (quietly : Bool) (schedule items : List I) → LeadsTo y schedule (λ s. AreEnough y quietly s items)
+      → LeadsTo y schedule (λ s. All (λ i. IsSome (y.step s i)) items)
+  can_here lawful quietly schedule items e = (e.0, e.1, can_all lawful quietly e.0 items (schedule, e.1) e.2)
+
+  pub was_followed_at : (quietly : Bool) (old seen : List S) (at : ℕ) (schedule items : List I) → run y y.start schedule ≡ slice_get old at
+      → LeadsTo y schedule (λ s. AreEnough y quietly s items) → LeadsTo y schedule (λ s. All (LeadsInto y seen s) items)
+      → IfSome (slice_get old at) (WasFollowed y quietly seen)
+  was_followed_at quietly old seen at schedule items leads enough into =
+      let stands : slice_get old at ≡ Some enough.0 = sym leads ∙ enough.1 in
+      let is : into.0 ≡ enough.0 = same_Some into.0 enough.0 (sym into.1 ∙ enough.1) in
+      let At : Option S → Type 0 = λ o. IfSome o (WasFollowed y quietly seen) in
+      subst At (sym stands) (was_followed quietly seen enough.0 items enough.2 (subst (λ s. All (LeadsInto y seen s) items) is into.2))
+
   -- one state more
-  pub followed_more : (quietly : Bool) (old new : List S) (at : ℕ) (s : S) (items : List I) → slice_get old at ≡ Some s → IsLonger old new
-      → All (WasFollowed y quietly old) (take at old) → AreEnough y quietly s items → IfSome (slice_get old at) (λ u. All (LeadsInto y new u) items)
-      → All (WasFollowed y quietly new) (take (at + 1) new)
-  followed_more quietly old new at s items stands l done enough leads =
+  pub followed_more : (quietly : Bool) (old new : List S) (at : ℕ) (s : S) → slice_get old at ≡ Some s → IsLonger old new
+      → All (WasFollowed y quietly old) (take at old) → WasFollowed y quietly new s → All (WasFollowed y quietly new) (take (at + 1) new)
+  followed_more quietly old new at s stands l done here =
       let in' : at < length old = slice_get_within old at s stands in
       let in_new : at < length new = omega (arith, no_shorter old new l) in
-      let Leads : Option S → Type 0 = λ o. IfSome o (λ u. All (LeadsInto y new u) items) in
-      let here : All (LeadsInto y new s) items = subst Leads stands leads in
       let it : get_or new at s ≡ s = get_or_from_slice_get new at s s (same_place old new at l in' ∙ stands) in
       let front : take at new ≡ take at old = ap (take at) l.1 ∙ take-append-le at old l.0 (omega arith) in
       All-more (WasFollowed y quietly new) new at s in_new
       (subst (All (WasFollowed y quietly new)) (sym front)
       (All-weaker (WasFollowed y quietly old) (WasFollowed y quietly new) (λ u h. followed_longer quietly old new u l h) (take at old) done))
-      (subst (WasFollowed y quietly new) (sym it) (was_followed quietly new s items enough here))
+      (subst (WasFollowed y quietly new) (sym it) here)
 
   -- with no quiet turn, each state was followed whole
   pub followed_whole : (seen : List S) → All (WasFollowed y false seen) seen → All (IsFollowed y seen) seen

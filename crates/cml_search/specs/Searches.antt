@@ -7,9 +7,9 @@ use Rattle.cml_search.specs.Systems.{System, run, IsReached, IsTerminal, IsFollo
 abbrev pub IsLonger : {S : Type 0} → List S → List S → Type 0
 IsLonger {S} old new = (more : List S) × (new ≡ old ++ more)
 
--- no state stands at two places
-abbrev pub IsOnce : {S : Type 0} → List S → Type 0
-IsOnce {S} states = (j k : ℕ) (s : S) → slice_get states j ≡ Some s → slice_get states k ≡ Some s → j ≡ k
+-- the state stands before this place
+abbrev pub StandsBefore : {S : Type 0} → List S → ℕ → S → Type 0
+StandsBefore states place s = (k : ℕ) × (k < place) × (slice_get states k ≡ Some s)
 
 -- By the origins, one item more leads to a state than to the one that it came of: how many lead to the state at each place.
 pub record Depths {I : Type 0} (origins : List (ℕ × I)) (depth : ℕ → ℕ) : Type 0 where
@@ -28,7 +28,6 @@ module _ {S I : Type 0} (y : System S I) where
   pub record Keeps (states : List S) (origins : List (ℕ × I)) : Type 0 where
     pub trail : IsTrail states origins
     pub reached : All (IsReached y) states
-    pub once : IsOnce states
 
   -- These items are enough to follow: all that can be taken, or, where that may be, one quiet turn.
   abbrev pub AreEnough : Bool → S → List I → Type 0
@@ -66,6 +65,6 @@ module _ {S I : Type 0} (y : System S I) where
   abbrev pub IsSought : Bool → List I → S → Type 0
   IsSought quietly items s = (run y y.start items ≡ Some s) × (quietly ≡ true → IsTerminal y s)
 
-  -- No schedule that leads to the state that these items lead to has fewer.
-  abbrev pub IsShortest : Bool → List I → S → Type 0
-  IsShortest quietly items s = (others : List I) → IsSought quietly others s → length items ≤ length others
+  -- No fewer items lead to the state at this place, where it does not stand before: all that fewer items lead to stands before the place.
+  abbrev pub AreFewest : Bool → List S → ℕ → List I → Type 0
+  AreFewest quietly states place items = (others : List I) (s : S) → IsSought quietly others s → length others < length items → StandsBefore states place s

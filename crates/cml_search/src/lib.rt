@@ -6,4 +6,4 @@ pub mod law;
 mod system;
 
 pub use found::{Found, all_ends, all_states, ends_of, reach, schedule_to};
-pub use system::System;
+pub use system::{Gap, System};

@@ -1,10 +1,12 @@
-use Rattle.std.proofs.Common.{[], ◌∷◌, ap, ◌∙◌}
+use Rattle.std.proofs.Common.{[], ◌∷◌, map, ap, ◌∙◌}
 use Rattle.indexmap.specs.IndexSet.{insert_key}
 use Rattle.cml_search.proofs.Broad.{begins_from}
 use Rattle.cml_search.proofs.found.begin.Goals as goal
 
 pub returns-clause-search : goal.returns-clause-search
 returns-clause-search g c =
-    begins_from (g.Y.System.rules c.args.system.now) c.args.quietly c.insert.new.self.keys c.new.result.items
-    (c.in_ok-insert.ensures.keys ∙ (ap (λ l. insert_key g.Y.State.PartialEq.eq l c.in_ok-start.start) c.new-states.ensures.empty ∙ ap (λ s. s ∷ []) c.in_ok-start.ensures))
+    let f = g.Y.System.state_of c.args.system.now in
+    let alone = c.in_ok-insert.ensures.keys ∙ ap (λ l. insert_key g.Y.Kept.PartialEq.eq l c.in_ok-start.start) c.new-kept.ensures.empty in
+    begins_from (g.Y.System.rules c.args.system.now) c.args.quietly (map f c.insert.new.self.keys) c.new.result.items
+    (ap (map f) alone ∙ ap (λ s. s ∷ []) c.in_ok-start.ensures)
     c.new.ensures.items

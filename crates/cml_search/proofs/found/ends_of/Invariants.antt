@@ -1,4 +1,4 @@
-use Rattle.std.proofs.Common.{ℕ, ◌<◌, length, Contains, slice_get}
+use Rattle.std.proofs.Common.{ℕ, ◌<◌, length, map, Contains, slice_get}
 use Rattle.std.specs.Prelude.{IfSome}
 use Rattle.std.specs.List.{All}
 use Rattle.cml_search.specs.Systems.{IsTerminal}
@@ -7,9 +7,9 @@ use Rattle.cml_search.proofs.found.ends_of.Given as goal
 abbrev pub invariant-loop-k : goal.invariant-loop-k
 invariant-loop-k g l =
     let y = g.Y.System.rules l.system in
-    let states = l.found.states.keys in
+    let states = map (g.Y.System.state_of l.system) l.found.kept.keys in
     record {
-      within : All (λ k. k < length states) l.ends.items;
+      within : All (λ k. k < length l.found.kept.keys) l.ends.items;
       each : All (λ k. IfSome (slice_get states k) (IsTerminal y)) l.ends.items;
       all : (k : ℕ) → k < l.k → IfSome (slice_get states k) (λ s. IsTerminal y s → Contains l.ends.items k);
     }

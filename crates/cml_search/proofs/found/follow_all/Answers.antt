@@ -1,26 +1,56 @@
-use Rattle.std.proofs.Common.{◌≡◌, take, slice_get, sym, subst, arith}
-use Rattle.std.specs.Prelude.{IfSome}
+use Rattle.std.proofs.Common.{◌≡◌, ◌<◌, length, map, take, [], sym, subst, ◌∙◌, arith, append-nil}
 use Rattle.std.specs.List.{All}
+use Rattle.std.proofs.lemmas.Option.{same_Some, slice_get_within}
 use Rattle.std.proofs.lemmas.List.{take_all}
-use Rattle.cml_search.specs.{Systems.{LeadsInto}, Searches.{IsBroad}}
-use Rattle.cml_search.proofs.Broad.{broad_none}
+use Rattle.std.proofs.lemmas.List.Elements.{All-nil}
+use Rattle.cml_search.specs.{Systems.{LeadsTo, LeadsInto}, Searches.{IsBroad}}
 use Rattle.cml_search.proofs.Places.{take_one}
 use Rattle.cml_search.proofs.Rounds.{longer_trans, same_place, leads_more}
+use Rattle.cml_search.proofs.Broad.{broad_none}
 use Rattle.cml_search.proofs.found.follow_all.Goals as goal
+
+pub loop-item-init : goal.loop-item-init
+loop-item-init g c =
+    let y = g.Y.System.rules c.args.system.now in
+    let f = g.Y.System.state_of c.args.system.now in
+    let keys = map f c.args.found.now.kept.keys in
+    let can = c.requires.can in
+    record {
+      keeps = c.requires.keeps;
+      longer = ([], sym (append-nil keys));
+      leads = (can.0, can.1, All-nil (LeadsInto y keys can.0));
+      broad = λ q b. b;
+      bounded = c.requires.bounded;
+    }
+
+pub follow-requires-clause-leads : goal.follow-requires-clause-leads
+follow-requires-clause-leads g c =
+    let f = g.Y.System.state_of c.args.system.now in
+    let old = map f c.args.found.now.kept.keys in
+    let mid = map f c.loop-item.found.kept.keys in
+    let in' : c.args.at < length old = slice_get_within old c.args.at c.requires.can.0 (sym c.requires.leads ∙ c.requires.can.1) in
+    c.requires.leads ∙ sym (same_place old mid c.args.at c.loop-item.invariant.longer in')
 
 pub loop-item-preserved : goal.loop-item-preserved
 loop-item-preserved g c =
     let y = g.Y.System.rules c.args.system.now in
-    let old = c.args.found.now.states.keys in
-    let mid = c.loop-item.found.states.keys in
-    let new = c.follow.new.found.states.keys in
+    let f = g.Y.System.state_of c.args.system.now in
+    let old = map f c.args.found.now.kept.keys in
+    let mid = map f c.loop-item.found.kept.keys in
+    let new = map f c.follow.new.found.kept.keys in
     let before = c.loop-item.invariant in
     let after = c.in_ok-follow.ensures in
+    let one = after.leads in
+    let is : before.leads.0 ≡ one.0 = same_Some before.leads.0 one.0 (sym before.leads.1 ∙ one.1) in
     record {
       keeps = after.keeps;
       longer = longer_trans old mid new before.longer after.longer;
-      leads = leads_more y c.args.at old mid new c.args.items.now c.loop-item.item-index c.item-item.result before.leads after.longer after.leads
-          (same_place old mid c.args.at before.longer c.requires.within) (omega arith) c.item-item.is;
+      leads = (
+        before.leads.0,
+        before.leads.1,
+        leads_more y mid new before.leads.0 c.args.items.now c.loop-item.item-index c.item-item.result before.leads.2 after.longer
+            (subst (λ s. LeadsInto y new s c.item-item.result) (sym is) one.2) (omega arith) c.item-item.is,
+      );
       broad = λ q b.
           let next = after.broad q (take c.loop-item.item-index c.args.items.now) (before.broad q b) in
           subst (λ l. IsBroad y q c.args.at new c.follow.new.found.origins.items l) (sym (take_one c.args.items.now c.loop-item.item-index c.item-item.result (omega arith) c.item-item.is)) next;
@@ -30,11 +60,19 @@ loop-item-preserved g c =
 pub returns-clause-leads : goal.returns-clause-leads
 returns-clause-leads g c =
     let y = g.Y.System.rules c.args.system.now in
+    let f = g.Y.System.state_of c.args.system.now in
     let all : take c.loop-item.item-index c.args.items.now ≡ c.args.items.now = take_all c.loop-item.item-index c.args.items.now (omega arith) in
-    λ _. subst (λ l. IfSome (slice_get c.args.found.now.states.keys c.args.at) (λ s. All (LeadsInto y c.loop-item.found.states.keys s) l)) all c.loop-item.invariant.leads
+    λ _. subst (λ l. LeadsTo y c.args.schedule.now (λ s. All (LeadsInto y (map f c.loop-item.found.kept.keys) s) l)) all c.loop-item.invariant.leads
 
 pub returns-clause-broad : goal.returns-clause-broad
 returns-clause-broad g c =
     let y = g.Y.System.rules c.args.system.now in
+    let f = g.Y.System.state_of c.args.system.now in
     let all : take c.loop-item.item-index c.args.items.now ≡ c.args.items.now = take_all c.loop-item.item-index c.args.items.now (omega arith) in
-    λ _ q b. subst (IsBroad y q c.args.at c.loop-item.found.states.keys c.loop-item.found.origins.items) all (c.loop-item.invariant.broad q b)
+    λ _ q b. subst (IsBroad y q c.args.at (map f c.loop-item.found.kept.keys) c.loop-item.found.origins.items) all (c.loop-item.invariant.broad q b)
+
+pub returns-clause-some : goal.returns-clause-some
+returns-clause-some g c =
+    let y = g.Y.System.rules c.args.system.now in
+    let f = g.Y.System.state_of c.args.system.now in
+    λ q b. broad_none y q c.args.at (map f c.loop-item.found.kept.keys) c.loop-item.found.origins.items (take c.loop-item.item-index c.args.items.now) (c.loop-item.invariant.broad q b)

@@ -1,5 +1,6 @@
-use Rattle.std.proofs.Common.{◌≡◌, ◌+◌, ◌-◌, length, slice_get, Some, refl, ap, sym, ◌∙◌, arith}
+use Rattle.std.proofs.Common.{◌≡◌, ◌+◌, ◌-◌, length, map, slice_get, Some, refl, ap, sym, ◌∙◌, arith}
 use Rattle.std.proofs.lemmas.Option.{slice_get_read}
+use Rattle.std.proofs.lemmas.List.{length-map}
 use Rattle.cml_search.proofs.Broad.{found_within}
 use Rattle.cml_search.proofs.found.reach.Goals as goal
 
@@ -7,9 +8,10 @@ pub loop-at-preserved : goal.loop-at-preserved
 loop-at-preserved g c =
     let origins = c.args.found.now.origins.items in
     let t = c.requires.search.keeps.trail in
+    let size = length-map c.args.found.now.kept.keys (g.Y.System.state_of c.args._system.now) in
     let before = c.loop-at.invariant in
     let o = c.index.result.now in
-    let here : slice_get origins (c.loop-at.at - 1) ≡ Some o = slice_get_read origins (length origins) (c.loop-at.at - 1) o refl (omega (arith, t.lengths, before.within)) c.index.ensures in
+    let here : slice_get origins (c.loop-at.at - 1) ≡ Some o = slice_get_read origins (length origins) (c.loop-at.at - 1) o refl (omega (arith, t.lengths, size, before.within)) c.index.ensures in
     record {
       within = omega (arith, t.before (c.loop-at.at - 1) o here, before.within);
       few = omega (arith, t.before (c.loop-at.at - 1) o here, before.few);
@@ -22,5 +24,6 @@ loop-at-preserved g c =
 pub returns : goal.returns
 returns g c =
     let found = c.args.found.now in
-    found_within (g.Y.System.rules c.args._system.now) (g.met.Y.System.lawful c.args._system.now) found.quietly found.followed found.states.keys found.origins.items c.requires.search
-    c.requires.stopped c.loop-at.count c.loop-at.at (omega arith) c.loop-at.invariant.counts
+    let f = g.Y.System.state_of c.args._system.now in
+    found_within (g.Y.System.rules c.args._system.now) (g.met.Y.System.lawful c.args._system.now) found.quietly found.followed (map f found.kept.keys) found.origins.items c.requires.search
+    (omega (arith, length-map found.kept.keys f, c.requires.stopped)) c.loop-at.count c.loop-at.at (omega arith) c.loop-at.invariant.counts

@@ -5,7 +5,7 @@ use Rattle.cml_search.proofs.found.reach.Given as goal
 abbrev pub invariant-loop-at : goal.invariant-loop-at
 invariant-loop-at g l =
     record {
-      within : l.at < length l.found.states.keys;
+      within : l.at < length l.found.kept.keys;
       few : l.count + l.at ≤ l.found.followed;
       counts : (d : ℕ → ℕ) → Depths l.found.origins.items d → l.count + d l.at ≡ d l.found.followed;
     }

@@ -1,4 +1,4 @@
-use Rattle.std.proofs.Common.{◌≤◌, ◌-◌, length, take}
+use Rattle.std.proofs.Common.{◌≤◌, ◌-◌, length, map, take}
 use Rattle.std.specs.List.{All}
 use Rattle.cml_search.specs.Searches.{IsSearch, WasFollowed}
 use Rattle.cml_search.proofs.found.search.Given as goal
@@ -6,11 +6,12 @@ use Rattle.cml_search.proofs.found.search.Given as goal
 abbrev pub invariant-loop-at : goal.invariant-loop-at
 invariant-loop-at g l =
     let y = g.Y.System.rules l.system in
+    let states = map (g.Y.System.state_of l.system) l.found.kept.keys in
     record {
-      search : IsSearch y l.quietly l.at l.found.states.keys l.found.origins.items;
-      done : All (WasFollowed y l.quietly l.found.states.keys) (take l.at l.found.states.keys);
-      within : l.at ≤ length l.found.states.keys;
-      bounded : length l.found.states.keys ≤ l.bound;
+      search : IsSearch y l.quietly l.at states l.found.origins.items;
+      done : All (WasFollowed y l.quietly states) (take l.at states);
+      within : l.at ≤ length l.found.kept.keys;
+      bounded : length l.found.kept.keys ≤ l.bound;
     }
 
 abbrev pub decreases-loop-at : goal.decreases-loop-at
