@@ -2,9 +2,9 @@
 #![tactic(auto)]
 
 #[cfg(test)]
-mod ample;
-#[cfg(test)]
 mod books;
+#[cfg(test)]
+mod cases;
 #[cfg(test)]
 mod checks;
 pub mod choosing;
@@ -20,6 +20,8 @@ mod hubs;
 mod kinds;
 #[cfg(test)]
 mod lanes;
+#[cfg(test)]
+mod lines;
 #[cfg(test)]
 mod machines;
 #[cfg(test)]
@@ -38,5 +40,7 @@ mod stacks;
 mod tables;
 #[cfg(test)]
 mod texts;
+#[cfg(test)]
+mod traces;
 #[cfg(test)]
 mod values;
