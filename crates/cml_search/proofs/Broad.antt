@@ -6,7 +6,7 @@ use Rattle.std.proofs.lemmas.Bool.Decides.{nat_tests}
 use Rattle.std.proofs.lemmas.List.Elements.{All-nil, All-cons, All-push, All-weaker, All-contains}
 use Rattle.std.proofs.lemmas.Option.{slice_get_within, get_or_from_slice_get, same_Some, IfSome_then}
 use Rattle.cml_search.specs.Systems.{System, run, IsReached, IsTerminal, IsLawful}
-use Rattle.cml_search.specs.Searches.{Depths, IsTrail, Keeps, AreEnough, LeadsNear, IsFollowedNear, IsBroad, IsSearch, IsSought, StandsBefore, AreFewest}
+use Rattle.cml_search.specs.Searches.{Depths, IsTrail, Keeps, AreEnough, LeadsNear, IsFollowedNear, IsBroad, IsSearch, IsSought, IsFoundBefore, AreFewest}
 use Rattle.cml_search.proofs.Runs.{at_some, begins}
 use Rattle.cml_search.proofs.Places.{get_front, get_end, get_push_cases, all_at, place_of, either_way}
 use Rattle.cml_search.proofs.Quiet.{comes_first}
@@ -250,7 +250,7 @@ module _ {S I : Type 0} (y : System S I) where
     ]
 
     -- what fewer items lead to than to a place stands before it
-    pub stands_before : (p : ℕ) → p < length states → (others : List I) (s : S) → IsSought y quietly others s → length others < b.depth p → StandsBefore states p s
+    pub stands_before : (p : ℕ) → p < length states → (others : List I) (s : S) → IsSought y quietly others s → length others < b.depth p → IsFoundBefore states p s
     stands_before p p_in others s sought fewer =
         let start : b.depth 0 ≡ 0 = b.counts.start in
         let f = ends_near (length others) (covered (length others) p p_in fewer) (length others) others 0 y.start s refl (omega (arith, start)) keeps.trail.start sought.0 sought.1 in

@@ -8,8 +8,8 @@ abbrev pub IsLonger : {S : Type 0} → List S → List S → Type 0
 IsLonger {S} old new = (more : List S) × (new ≡ old ++ more)
 
 -- the state stands before this place
-abbrev pub StandsBefore : {S : Type 0} → List S → ℕ → S → Type 0
-StandsBefore states place s = (k : ℕ) × (k < place) × (slice_get states k ≡ Some s)
+abbrev pub IsFoundBefore : {S : Type 0} → List S → ℕ → S → Type 0
+IsFoundBefore states place s = (k : ℕ) × (k < place) × (slice_get states k ≡ Some s)
 
 -- By the origins, one item more leads to a state than to the one that it came of: how many lead to the state at each place.
 pub record Depths {I : Type 0} (origins : List (ℕ × I)) (depth : ℕ → ℕ) : Type 0 where
@@ -67,4 +67,4 @@ module _ {S I : Type 0} (y : System S I) where
 
   -- No fewer items lead to the state at this place, where it does not stand before: all that fewer items lead to stands before the place.
   abbrev pub AreFewest : Bool → List S → ℕ → List I → Type 0
-  AreFewest quietly states place items = (others : List I) (s : S) → IsSought quietly others s → length others < length items → StandsBefore states place s
+  AreFewest quietly states place items = (others : List I) (s : S) → IsSought quietly others s → length others < length items → IsFoundBefore states place s
