@@ -1,0 +1,13 @@
+use Rattle.std.proofs.Common.{ap, sym, ◌∙◌}
+use Rattle.cml_hub.specs.Runs.{terminal}
+use Rattle.cml_verify.proofs.kept.keep.Goals as goal
+
+pub returns : goal.returns
+returns c = record {
+  world = (rw c.in-Some.is at c.in_ok-read.ensures) ∙ c.book.ensures;
+  machines = c.in_ok-machines.ensures;
+  faults = c.faults-faults.ensures;
+}
+
+pub invariant_of-kept : goal.invariant_of-kept
+invariant_of-kept c = c.is_quiet-ends.ensures ∙ ap terminal (sym ((rw c.in-Some.is at c.in_ok-read.ensures) ∙ c.book.ensures))

@@ -1,0 +1,48 @@
+-- What is kept of a state.
+use Rattle.std.specs.Prelude.{◌≡◌, ℕ, true, List, map, Some, refl}
+use Rattle.std.specs.Coded.{Coded, code_by, coded×, coded_list, coded_ℕ}
+use Rattle.cml_check.specs.Syntax.{PlainItem}
+use Rattle.cml_scan.specs.World.{PlainWorld}
+use Rattle.cml_scan.specs.Codes.{world_code}
+use Rattle.cml_schedule.specs.declared.item.Item.{Item}
+use Rattle.cml_step.specs.Calls.{text_of}
+use Rattle.cml_step.specs.Machines.{PlainMachine, machine_term}
+use Rattle.cml_step.specs.MachineCodes.{machine_code}
+use Rattle.cml_hub.specs.Courses.{PlainCourse, run_of}
+use Rattle.cml_hub.specs.Kept.{Kept as Hub, NoneOut}
+use Rattle.cml_hub.specs.Runs.{stands}
+use Rattle.cml_hub.specs.Deeds.{fault_count}
+use Rattle.cml_verify.specs.Cores.{Core}
+use Rattle.cml_verify.specs.Sameness.{is_same, is_same_says}
+
+-- a digest, by which it is looked up; the world; the machine of each thread by its number; and how many threads ended at a fault
+pub record PlainKept : Type 0 where
+  pub digest : ℕ
+  pub world : PlainWorld
+  pub machines : List PlainMachine
+  pub faults : ℕ
+
+abbrev pub state_code : Coded PlainKept
+state_code =
+    code_by (ℕ × (PlainWorld × (List PlainMachine × ℕ))) (coded× coded_ℕ (coded× world_code (coded× (coded_list machine_code) coded_ℕ)))
+    (λ k. (k.digest, (k.world, (k.machines, k.faults)))) (λ p. record { digest = p.0; world = p.1.0; machines = p.1.1.0; faults = p.1.1.1 }) (λ _. refl)
+
+-- the core of which it is kept
+abbrev pub core_kept : List (PlainItem ℕ) → PlainKept → Core
+core_kept p k = record { world = k.world; terms = map (machine_term p) k.machines; faults = k.faults }
+
+-- the world and the machines of a course are kept, and how many of its threads ended at a fault
+pub record KeepsCourse (c : PlainCourse) (k : PlainKept) : Type 0 where
+  pub world : k.world ≡ c.world
+  pub machines : k.machines ≡ c.machines
+  pub faults : k.faults ≡ fault_count (text_of c.program) c.items
+
+-- the hub has gone through the schedule
+pub record IsAfter (p : List (PlainItem ℕ)) (schedule : List Item) (h : Hub) : Type 0 where
+  pub program : h.course.program ≡ p
+  pub items : h.course.items ≡ schedule
+  pub none_out : NoneOut h
+  pub leads : stands (text_of p) schedule ≡ Some (run_of h.course)
+
+pub kept_same : (a b : PlainKept) → is_same state_code a b ≡ true → a ≡ b
+kept_same a b e = is_same_says state_code a b e

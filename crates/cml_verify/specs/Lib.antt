@@ -1,0 +1,6 @@
+pub mod Verdicts
+pub mod Cores
+pub mod Sameness
+pub mod Kept
+pub mod Lawful
+pub mod Ends

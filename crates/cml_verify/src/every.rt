@@ -1,0 +1,88 @@
+//! Every schedule of a program.
+
+ghost use Rattle.std.specs.Prelude.{◌≡◌, ◌<◌, List, IfOk, IsTrue, false, Contains, length, map};
+ghost use Rattle.std.specs.List.{All};
+ghost use Rattle.cml_schedule.specs.declared.item.Item.{Item};
+ghost use Rattle.cml_search.specs.{Systems.{IsReached}, Searches.{IsSearch, IsSought}};
+ghost use Rattle.cml_step.specs.Calls.{text_of};
+ghost use Rattle.cml_verify.specs.{Cores.{Core, program_system}, Ends.{AreSchedulesTo}, Kept.{core_kept}, Verdicts.{IsShortestEnd, IsWithin, EveryEndIsTold}};
+
+use crate::ends::first_ends;
+use crate::kept::Kept;
+use crate::schedules::Schedules;
+use cml_check::Prog;
+use cml_hub::Item;
+use cml_search::{Found, Gap, all_states, reach, schedule_to};
+use std::alloc::Global;
+
+/// What a search of every schedule found.
+#[derive(Drop)]
+pub struct Verdict {
+    /// A shortest schedule to each end: to each world in which nothing is left to do, with as many faults.
+    pub ends: Vec<Vec<Item>>,
+    /// How many states were kept.
+    pub states: usize,
+    /// Nothing, if every schedule was examined. Else the bound was reached, and the schedules of at most so many items were examined.
+    pub reach: Option<usize>,
+}
+
+// A schedule to the state at each of these places.
+fn schedules_to(
+    alloc: Global,
+    system: &Schedules,
+    found: &Found<Kept, Item>,
+    places: &[usize],
+) -> Result<Vec<Vec<Item>>, Gap>
+    requires search { IsSearch (program_system (text_of system.now.program)) false found.now.followed (map (core_kept system.now.program) found.now.kept.keys) found.now.origins.items }
+    requires any { found.now.quietly ≡ false }
+    requires within { All (λ k. k < length found.now.kept.keys) places.now }
+    ensures { IfOk result (λ schedules. AreSchedulesTo (program_system (text_of system.now.program)) (map (core_kept system.now.program) found.now.kept.keys) places.now (length places.now)
+        (map (λ schedule. schedule.items) schedules.items)) }
+{
+    let mut schedules = Vec::new(alloc);
+    for place in places {
+        let schedule = schedule_to(alloc, system, found, *place)?;
+        schedules.push(schedule)?;
+    }
+    Ok(schedules)
+}
+
+// How far the search came, if it did not come to its end.
+fn reach_of(system: &Schedules, found: &Found<Kept, Item>) -> Option<usize>
+    requires search { IsSearch (program_system (text_of system.now.program)) false found.now.followed (map (core_kept system.now.program) found.now.kept.keys) found.now.origins.items }
+    requires any { found.now.quietly ≡ false }
+    requires stopped { found.now.whole ≡ false → found.now.followed < length found.now.kept.keys }
+    requires all { IsTrue found.now.whole → (c : Core) → IsReached (program_system (text_of system.now.program)) c → Contains (map (core_kept system.now.program) found.now.kept.keys) c }
+    ensures { (items : List Item) (c : Core) → IsWithin result items → IsSought (program_system (text_of system.now.program)) false items c
+        → Contains (map (core_kept system.now.program) found.now.kept.keys) c }
+{
+    if found.is_whole() {
+        return None;
+    }
+    Some(reach(system, found))
+}
+
+/// Examines every schedule of the program, up to so many states.
+///
+/// # Errors
+/// Out of memory; or a state can't be kept, which has more than one item in a mailbox, or a multicast channel.
+pub fn verify(alloc: Global, program: &Prog, bound: usize) -> Result<Verdict, Gap>
+    requires { 0 < bound }
+    ensures each { IfOk result (λ v. All (IsShortestEnd (text_of program.now)) (map (λ schedule. schedule.items) v.ends.items)) }
+    ensures all { IfOk result (λ v. EveryEndIsTold (text_of program.now) v.reach (map (λ schedule. schedule.items) v.ends.items)) }
+{
+    let again = program.copy()?;
+    let system = Schedules { program: again };
+    let found = all_states(alloc, &system, bound)?;
+    let kept = found.kept();
+    let places = first_ends(alloc, kept)?;
+    let told = places.as_slice();
+    let ends = schedules_to(alloc, &system, &found, told)?;
+    let states = kept.len();
+    let reach = reach_of(&system, &found);
+    Ok(Verdict {
+        ends,
+        states,
+        reach,
+    })
+}

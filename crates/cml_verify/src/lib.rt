@@ -1,0 +1,14 @@
+//! Every schedule of a program: which ends there are, and a shortest schedule to each.
+#![tactic(auto)]
+
+mod allowed;
+mod digest;
+mod ends;
+mod every;
+mod kept;
+mod read;
+mod same;
+mod schedules;
+
+pub use cml_search::Gap;
+pub use every::{Verdict, verify};
