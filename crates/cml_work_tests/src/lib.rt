@@ -1,4 +1,4 @@
-//! Tests of workers and of the watcher: what no contract says of them.
+//! Tests of workers, of the watcher, and of the search of every schedule: what no contract says of them.
 #![tactic(auto)]
 
 #[cfg(test)]
@@ -8,3 +8,5 @@ mod making;
 pub mod ranges;
 #[cfg(test)]
 mod runs;
+#[cfg(test)]
+mod schedules;
