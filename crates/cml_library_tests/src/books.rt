@@ -1,16 +1,13 @@
-//! Books over both tables, in what only a caller of the library can ask, and the tables by themselves.
+//! Books and the plain table, in what only a caller of the library can do.
 
-ghost use Rattle.std.specs.Prelude.{◌≡◌, []};
-
-use crate::lines::{halves, number, numbers, say};
-use crate::making::{MEMORY, group};
-use crate::scans::light_of;
-use crate::traces::{answered, rows_of};
-use cml_book::{Book, Command, Fault, Refusal, Reply};
-use cml_index::OfferIndex;
+use crate::making::{MEMORY, group, value};
+use cml_book::{Book, Fault, Refusal, Resume};
 use cml_kept::KeptRows;
-use cml_scan::{Light, Meet, NackState, Table};
-use cml_value::{Base, BaseKind, Group, GroupKind, MVarId, NackId, Tid};
+use cml_scan::{Light, Meet, NackState, Place, Table};
+use cml_value::{
+    Base, BaseKind, ChanId, Group, GroupKind, IVarId, MVarId, MboxId, McastId, NackId, PortId,
+    SwapId, Tid,
+};
 use std::process::Abort;
 
 /// Thread 1 sends to thread 0.
@@ -19,6 +16,11 @@ pub const EXCHANGE: Meet = Meet::Pair {
     head_leaf: 0,
     other: Tid(0),
     other_leaf: 0,
+};
+
+const SENDER: Place = Place {
+    tid: Tid(1),
+    leaf: 0,
 };
 
 /// Two swaps: the lower thread begins the row.
@@ -34,503 +36,171 @@ const FIRST: Meet = Meet::Single {
     leaf: 0,
 };
 
-// Books, each made from nothing. Each line is a line of a trace or a question, and what is answered.
-const BOOKS: &str = r#"
-; a value is handed over
-spawn => thread 0
-spawn => thread 1
-chan => chan 0
-? numbers => thread 2 nack 0 chan 1 swapchan 0 ivar 0 mvar 0 mailbox 0 mchan 0 port 0
-sync 1 (send 0 5) => ok
-? rows => 0:
-sync 0 (recv 0) => ok
-? pending => 2: 0 1
-? rows => 1: 1 0 0 0
-? row 1 0 0 0 => there
-? row 0 0 => not there
-commit 1 0 0 0 => resume 1 () / resume 0 5 / fired
-? pending => 0:
-? rows => 0:
+// What thread 0 can't wait on in a book of one thread and one channel, and why.
+const REFUSED: [(&str, Refusal); 5] = [
+    ("(iget 0)", Refusal::Object),
+    ("(join 1)", Refusal::Object),
+    ("(recv 1)", Refusal::Object),
+    ("(swap 0 1)", Refusal::Object),
+    ("(nack 0)", Refusal::Object),
+];
 
-; two values are swapped
-spawn => thread 0
-spawn => thread 1
-chan => chan 0
-swapchan => swapchan 0
-sync 1 (swap 0 5) => ok
-? row 0 0 1 0 => not there
-sync 0 (swap 0 7) => ok
-? row 0 0 1 0 => there, of swaps
-? row 1 0 0 0 => not there
-? row 0 0 => not there
-commit 0 0 1 0 => resume 0 5 / resume 1 7 / fired
-? row 0 0 1 0 => not there
+// Ticks, and why thread 0 can't wait for them, if it can't.
+const TICKS: [(u64, Option<Refusal>); 3] = [
+    (u64::MAX, Some(Refusal::Far)),
+    (4_611_686_018_427_387_905, Some(Refusal::Far)),
+    (4_611_686_018_427_387_904, None),
+];
 
-; a join is lit by the end
-spawn => thread 0
-spawn => thread 1
-chan => chan 0
-nack 2 => refused 1 thread
-nack 1 => nack 0
-? numbers => thread 2 nack 1 chan 1 swapchan 0 ivar 0 mvar 0 mailbox 0 mchan 0 port 0
-sync 0 (join 1) => ok
-? row 0 0 => not there
-end 1 => ok
-end 1 => refused 2 state
-commit 0 0 => resume 0 () / fired
-sync 0 (after 0) => ok
-? row 0 0 => there
-
-; a wait is refused by what it names
-spawn => thread 0
-chan => chan 0
-sync 0 (iget 0) => refused 3 object
-sync 0 (join 1) => refused 3 object
-sync 0 (recv 1) => refused 3 object
-sync 0 (swap 0 1) => refused 3 object
-sync 0 (nack 0) => refused 3 object
-sync 0 (at 4611686018427387905) => refused 9 far
-sync 0 (at 4611686018427387904) => ok
-sync 0 (at 0) => refused 2 state
-
-; a book knows its next alarm
-spawn => thread 0
-chan => chan 0
-clock 5 => ok
-? clock => 5, no alarm
-sync 0 (at 7) => ok
-? clock => 5, alarm 7
-clock 4 => refused 6 clock
-clock 7 => ok
-? clock => 7, no alarm
-? row 0 0 => there
-
-; a book tells who waits for what
-spawn => thread 0
-spawn => thread 1
-chan => chan 0
-? thread 0 => runs
-sync 0 (recv 0) => ok
-sync 1 (choose (send 0 5) (at 7)) => ok
-? thread 0 => waits
-? waits 0 (recv 0) => yes
-? thread 1 => waits
-? waits 1 (choose (send 0 5) (at 7)) => yes
-? lit join 1 => no
-commit 1 0 0 0 => resume 1 () / resume 0 5 / fired
-? thread 0 => runs
-? thread 1 => runs
-end 1 => ok
-? lit join 1 => yes
-? lit join 0 => no
-? thread 1 => neither
-? thread 2 => neither
-? lit join 2 => no
-
-; a book tells what variables hold
-spawn => thread 0
-chan => chan 0
-ivar => ivar 0
-mvar => mvar 0
-? lit ivar 0 => no
-? lit mvar 0 => no
-? value ivar 0 => none
-iput 0 3 => ok
-? lit ivar 0 => yes
-? lit mvar 0 => no
-mput 0 4 => ok
-? lit mvar 0 => yes
-? lit mvar 1 => no
-? value ivar 0 => 3
-? value mvar 0 => 4
-sync 0 (mtake 0) => ok
-commit 0 0 => resume 0 4 / fired
-? lit mvar 0 => no
-? lit ivar 0 => yes
-? value mvar 0 => none
-
-; a book counts what is queued
-spawn => thread 0
-chan => chan 0
-mailbox => mailbox 0
-? queued mailbox 0 => 0
-? lit mailbox 0 => no
-mail 0 7 => ok
-? queued mailbox 0 => 1
-mail 0 7 => ok
-? queued mailbox 0 => 2
-mail 0 7 => ok
-? queued mailbox 0 => 3
-? lit mailbox 0 => yes
-mail 0 9 => ok
-? value mailbox 0 => 7
-? queued mailbox 1 => none
-? queued port 0 => none
-mchan => mchan 0
-port 0 => port 0
-? queued port 0 => 0
-? value port 0 => none
-multicast 0 8 => ok
-? queued port 0 => 1
-multicast 0 8 => ok
-? queued port 0 => 2
-? value port 0 => 8
-sync 0 (portrecv 0) => ok
-commit 0 0 => resume 0 8 / fired
-? queued port 0 => 1
-? queued mailbox 0 => 4
-
-; a book tells what became of nacks
-spawn => thread 0
-chan => chan 0
-nack 0 => nack 0
-nack 0 => nack 1
-? nack 0 => fresh 0
-? nack 2 => none
-sync 0 (choose (scope 0 (always 1)) (scope 1 (recv 0))) => ok
-? nack 0 => live
-? nack 1 => live
-commit 0 0 => resume 0 1 / fired 1
-? nack 0 => held
-? nack 1 => fired
-? lit nack 0 => no
-? lit nack 1 => yes
-
-; a book numbers its next objects
-spawn => thread 0
-chan => chan 0
-? numbers => thread 1 nack 0 chan 1 swapchan 0 ivar 0 mvar 0 mailbox 0 mchan 0 port 0
-swapchan => swapchan 0
-ivar => ivar 0
-mvar => mvar 0
-mailbox => mailbox 0
-mchan => mchan 0
-port 0 => port 0
-? numbers => thread 1 nack 0 chan 1 swapchan 1 ivar 1 mvar 1 mailbox 1 mchan 1 port 1
-
-; a wait with a scope enters
-spawn => thread 0
-spawn => thread 1
-chan => chan 0
-nack 0 => nack 0
-sync 0 (scope 0 (choose (recv 0) (after 3))) => ok
-sync 1 (nack 0) => ok
-? thread 0 => waits
-? thread 1 => waits
-? thread 2 => neither
-? pending => 2: 0 1
-
-; a read of a variable is taken
-spawn => thread 0
-ivar => ivar 0
-iput 0 (pair 1 2) => ok
-sync 0 (iget 0) => ok
-commit 0 0 => resume 0 (pair 1 2) / fired
-mvar 7 => mvar 0
-sync 0 (mget 0) => ok
-commit 0 0 => resume 0 7 / fired
-sync 0 (mtake 0) => ok
-commit 0 0 => resume 0 7 / fired
-mput 0 8 => ok
-
-; an item of a mailbox is taken
-spawn => thread 0
-mailbox => mailbox 0
-sync 0 (mailrecv 0) => ok
-? row 0 0 => not there
-mail 0 5 => ok
-commit 0 0 => resume 0 5 / fired
-
-; a copied port has the message
-spawn => thread 0
-mchan => mchan 0
-port 0 => port 0
-multicast 0 4 => ok
-copy 0 => port 1
-sync 0 (portrecv 1) => ok
-commit 0 0 => resume 0 4 / fired
-
-; a thread ends and the clock moves
-spawn => thread 0
-spawn => thread 1
-spawn => thread 2
-sync 0 (join 1) => ok
-sync 2 (at 9) => ok
-end 1 => ok
-clock 9 => ok
-? clock => 9, no alarm
-? rows => 2: 0 0, 2 0
-? pending => 2: 0 2
-
-; a refusal is a reply
-spawn => thread 0
-sync 0 (recv 0) => refused 3 object
-? thread 0 => runs
-end 1 => refused 1 thread
-"#;
-
-fn yes_or_no(yes: bool) -> &'static str {
-    if yes { "yes" } else { "no" }
-}
-
-// The row of these numbers.
-fn row_of(rt: &(impl Abort + AllocGlobal), words: &str) -> Meet {
-    let spelled = numbers(rt, words);
-    let row = match spelled.as_slice() {
-        [tid, leaf] => Meet::Single {
-            tid: Tid(*tid),
-            leaf: *leaf,
-        },
-        [head, head_leaf, other, other_leaf] => Meet::Pair {
-            head: Tid(*head),
-            head_leaf: *head_leaf,
-            other: Tid(*other),
-            other_leaf: *other_leaf,
-        },
-        _ => rt.panic(words),
-    };
-    drop(spelled);
-    row
-}
-
-// The numbers that come next.
-fn tell_numbers<T: Table>(rt: &impl Abort, book: &Book<T>, text: &mut String) {
-    let next = book.next_objects();
-    write!(
-        text,
-        "thread {} nack {} chan {} swapchan {} ",
-        book.next_thread().0,
-        book.next_nack().0,
-        next.channel.0,
-        next.swap.0
-    )
-    .expect(rt, MEMORY);
-    write!(
-        text,
-        "ivar {} mvar {} mailbox {} mchan {} port {}",
-        next.ivar.0, next.mvar.0, next.mailbox.0, next.mchan.0, next.port.0
-    )
-    .expect(rt, MEMORY);
-}
-
-fn tell_clock<T: Table>(rt: &impl Abort, book: &Book<T>, text: &mut String) {
-    let pushed = match book.next_alarm() {
-        Some(alarm) => write!(text, "{}, alarm {alarm}", book.now()),
-        None => write!(text, "{}, no alarm", book.now()),
-    };
-    pushed.expect(rt, MEMORY);
-}
-
-fn thread_word<T: Table>(book: &Book<T>, thread: Tid) -> &'static str {
-    match (book.is_running(thread), book.waiting(thread)) {
-        (true, None) => "runs",
-        (false, Some(_)) => "waits",
-        (false, None) => "neither",
-        (true, Some(_)) => "both",
+// A book with this many threads, and one channel.
+fn book_of(rt: &(impl Abort + AllocGlobal), threads: u32) -> Book<KeptRows> {
+    let mut book = Book::new(rt.alloc(), KeptRows::new(rt.alloc()));
+    for number in 0..threads {
+        assert!(rt; book.spawn() == Ok(Tid(number)));
     }
+    assert!(rt; book.make_chan() == Ok(ChanId(0)));
+    book
 }
 
-// Whether the thread waits on just the group.
-fn waits_on<T: Table>(rt: &(impl Abort + AllocGlobal), book: &Book<T>, words: &str) -> bool {
-    let (thread, text) = halves(rt, words, " ");
-    let wanted = group(rt, text);
-    let waits = match book.waiting(Tid(number(rt, thread))) {
-        Some(group) => group.same(&wanted),
-        None => false,
-    };
-    drop(wanted);
+// The thread waits on the group that the text makes.
+fn wait(
+    rt: &(impl Abort + AllocGlobal),
+    book: &mut Book<KeptRows>,
+    thread: u32,
+    text: &str,
+) -> Result<(), Fault> {
+    let group = group(rt, text);
+    let waits = book.sync(rt.alloc(), Tid(thread), &group);
+    drop(group);
     waits
 }
 
-// How many heads there are, and all rows.
-fn tell_rows<T: Table>(rt: &(impl Abort + AllocGlobal), table: &T, text: &mut String) {
-    write!(text, "{}:", table.head_count()).expect(rt, MEMORY);
-    let rows = rows_of(rt, table);
-    for (i, row) in rows.iter().enumerate() {
-        say(rt, text, if i > 0 { "," } else { "" });
-        row.push_numbers(text).expect(rt, MEMORY);
-    }
-    drop(rows);
+// The party is this thread, and goes on with the value that the text makes, and nothing else.
+fn goes_on(rt: &(impl Abort + AllocGlobal), party: Resume, thread: u32, text: &str) {
+    let wanted = value(rt, text);
+    assert!(rt; party.tid == Tid(thread));
+    assert!(rt; party.value.same(&wanted));
+    assert!(rt; party.wraps.is_empty());
+    assert!(rt; party.fired.is_empty());
+    drop(party);
+    drop(wanted);
 }
 
-// Whether the row is there, and whether it is of two swaps.
-fn tell_row<T: Table>(rt: &impl Abort, book: &Book<T>, row: Meet, text: &mut String) {
-    let there = if book.table().has(&row) {
-        "there"
-    } else {
-        "not there"
-    };
-    let swaps = if book.swaps(&row) { ", of swaps" } else { "" };
-    write!(text, "{there}{swaps}").expect(rt, MEMORY);
-}
-
-fn tell_pending<T: Table>(rt: &(impl Abort + AllocGlobal), book: &Book<T>, text: &mut String) {
-    write!(text, "{}:", book.pending_count()).expect(rt, MEMORY);
+fn pending_count(rt: &(impl Abort + AllocGlobal), book: &Book<KeptRows>) -> usize {
     let pending = book.pending(rt.alloc()).expect(rt, MEMORY);
-    for thread in &pending {
-        write!(text, " {}", thread.0).expect(rt, MEMORY);
-    }
+    let count = pending.len();
     drop(pending);
+    count
 }
 
-fn tell_nack<T: Table>(rt: &impl Abort, book: &Book<T>, nack: NackId, text: &mut String) {
-    let pushed = match book.nack_state(nack) {
-        Some(NackState::Fresh(thread)) => write!(text, "fresh {}", thread.0),
-        Some(NackState::Live) => text.push_str("live"),
-        Some(NackState::Fired) => text.push_str("fired"),
-        Some(NackState::Held) => text.push_str("held"),
-        None => text.push_str("none"),
-    };
-    pushed.expect(rt, MEMORY);
+// The table shows just the exchange, by each of its calls.
+fn shows_the_exchange(rt: &(impl Abort + AllocGlobal), table: &KeptRows) {
+    let rows = table.rows(rt.alloc()).expect(rt, MEMORY);
+    assert!(rt; rows.len() == 1);
+    assert!(rt; rows[0] == EXCHANGE);
+    drop(rows);
+    assert!(rt; table.has(&EXCHANGE));
+    assert!(rt; !table.has(&FIRST));
+    assert!(rt; table.head_count() == 1);
+    assert!(rt; table.head(0) == SENDER);
+    assert!(rt; table.partner_count(SENDER) == 1);
+    assert!(rt; table.partner(SENDER, 0) == EXCHANGE);
 }
 
-// The value that the object of the light gives next.
-fn tell_value<T: Table>(
-    rt: &(impl Abort + AllocGlobal),
-    book: &Book<T>,
-    light: Light,
-    text: &mut String,
-) {
-    match book.value(light) {
-        Some(value) => {
-            let shown = value.show(rt.alloc()).expect(rt, MEMORY);
-            say(rt, text, shown.as_str());
-            drop(shown);
-        }
-        None => say(rt, text, "none"),
-    }
-}
-
-fn tell_queued<T: Table>(rt: &impl Abort, book: &Book<T>, words: &str, text: &mut String) {
-    let count = match light_of(rt, words) {
-        Light::Mbox(mailbox) => book.mailbox_len(mailbox),
-        Light::Port(port) => book.port_len(port),
-        _ => rt.panic(words),
-    };
-    let pushed = match count {
-        Some(count) => write!(text, "{count}"),
-        None => text.push_str("none"),
-    };
-    pushed.expect(rt, MEMORY);
-}
-
-// The answer to a question.
-fn told<T: Table>(rt: &(impl Abort + AllocGlobal), book: &Book<T>, question: &str) -> String {
-    let mut text = String::new(rt.alloc());
-    let (word, words) = match question.split_once(" ") {
-        Some(halves) => halves,
-        None => (question, ""),
-    };
-    let out = &mut text;
-    match word {
-        "numbers" => tell_numbers(rt, book, out),
-        "clock" => tell_clock(rt, book, out),
-        "rows" => tell_rows(rt, book.table(), out),
-        "pending" => tell_pending(rt, book, out),
-        "row" => tell_row(rt, book, row_of(rt, words), out),
-        "nack" => tell_nack(rt, book, NackId(number(rt, words)), out),
-        "value" => tell_value(rt, book, light_of(rt, words), out),
-        "queued" => tell_queued(rt, book, words, out),
-        _ => out
-            .push_str(word_of(rt, book, word, words))
-            .expect(rt, MEMORY),
-    }
-    text
-}
-
-// The answer to a question that is answered by one word.
-fn word_of<T: Table>(
-    rt: &(impl Abort + AllocGlobal),
-    book: &Book<T>,
-    word: &str,
-    words: &str,
-) -> &'static str {
-    match word {
-        "thread" => thread_word(book, Tid(number(rt, words))),
-        "waits" => yes_or_no(waits_on(rt, book, words)),
-        "lit" => yes_or_no(book.is_lit(light_of(rt, words))),
-        _ => rt.panic(word),
-    }
-}
-
-// The answer to a line of a trace, as one line.
-fn one_line<T: Table>(
-    rt: &(impl Abort + AllocGlobal),
-    book: &mut Book<T>,
-    command: &str,
-) -> String {
-    let line = format!(in rt.alloc(); "{command}\n").expect(rt, MEMORY);
-    let answer = answered(rt, book, line.as_str());
-    drop(line);
-    let lines = answer.trim_end();
-    let one = lines.replace(rt.alloc(), "\n", " / ").expect(rt, MEMORY);
-    drop(answer);
-    one
-}
-
-// Each line of the case is answered so by a book over the table.
-fn goes_so<T: Table + Drop>(rt: &(impl Abort + AllocGlobal), table: T, case: &str)
-    requires { T.entries table ≡ [] }
-{
-    let mut book = Book::new(rt.alloc(), table);
-    for line in case.lines() {
-        match line.split_once(" => ") {
-            Some((asked, wanted)) => {
-                let said = match asked.strip_prefix("? ") {
-                    Some(question) => told(rt, &book, question),
-                    None => one_line(rt, &mut book, asked),
-                };
-                assert!(rt; said.as_str() == wanted, "{line}: {said}");
-                drop(said);
-            }
-            None => assert!(rt; line.is_empty() || line.starts_with("; "), "{line}"),
-        }
-    }
+#[test]
+fn a_value_is_handed_over(rt: HostRuntime) {
+    let mut book = book_of(&rt, 2);
+    assert!(rt; book.next_thread() == Tid(2));
+    assert!(rt; wait(&rt, &mut book, 1, "(send 0 5)") == Ok(()));
+    assert!(rt; book.table().head_count() == 0);
+    assert!(rt; wait(&rt, &mut book, 0, "(recv 0)") == Ok(()));
+    assert!(rt; pending_count(&rt, &book) == 2);
+    shows_the_exchange(&rt, book.table());
+    assert!(rt; !book.swaps(&EXCHANGE));
+    let committed = book.commit(rt.alloc(), EXCHANGE).expect(&rt, MEMORY);
+    goes_on(&rt, committed.head, 1, "()");
+    goes_on(&rt, committed.partner.expect(&rt, "a receiver"), 0, "5");
+    assert!(rt; pending_count(&rt, &book) == 0);
+    assert!(rt; book.table().head_count() == 0);
     drop(book);
 }
 
 #[test]
-fn books_answer_so(rt: HostRuntime) {
-    for case in BOOKS.split("\n\n") {
-        goes_so(&rt, KeptRows::new(rt.alloc()), case);
-        goes_so(&rt, OfferIndex::new(rt.alloc()), case);
-    }
+fn two_values_are_swapped(rt: HostRuntime) {
+    let mut book = book_of(&rt, 2);
+    assert!(rt; book.make_swap() == Ok(SwapId(0)));
+    assert!(rt; wait(&rt, &mut book, 1, "(swap 0 5)") == Ok(()));
+    assert!(rt; !book.swaps(&SWAP));
+    assert!(rt; wait(&rt, &mut book, 0, "(swap 0 7)") == Ok(()));
+    assert!(rt; book.swaps(&SWAP) && !book.swaps(&EXCHANGE) && !book.swaps(&FIRST));
+    let committed = book.commit(rt.alloc(), SWAP).expect(&rt, MEMORY);
+    goes_on(&rt, committed.head, 0, "5");
+    goes_on(&rt, committed.partner.expect(&rt, "another"), 1, "7");
+    assert!(rt; !book.swaps(&SWAP));
+    drop(book);
 }
 
-// No trace can name so late a tick.
 #[test]
-fn a_tick_may_be_too_far(rt: HostRuntime) {
-    let mut book = Book::new(rt.alloc(), OfferIndex::new(rt.alloc()));
-    assert!(rt; book.spawn() == Ok(Tid(0)));
-    let group = Group::new(GroupKind::Leaf(Base::new(BaseKind::At(u64::MAX))));
+fn a_join_is_lit_by_the_end(rt: HostRuntime) {
+    let mut book = book_of(&rt, 2);
+    assert!(rt; book.nack(Tid(2)) == Err(Fault::Refused(Refusal::Thread)));
+    assert!(rt; book.nack(Tid(1)) == Ok(NackId(0)));
+    assert!(rt; book.next_nack() == NackId(1));
+    assert!(rt; wait(&rt, &mut book, 0, "(join 1)") == Ok(()));
+    assert!(rt; !book.table().has(&FIRST));
+    assert!(rt; book.end(rt.alloc(), Tid(1)) == Ok(()));
+    let again = book.end(rt.alloc(), Tid(1));
+    assert!(rt; again == Err(Fault::Refused(Refusal::State)));
+    let committed = book.commit(rt.alloc(), FIRST).expect(&rt, MEMORY);
+    assert!(rt; committed.partner.is_none());
+    goes_on(&rt, committed.head, 0, "()");
+    assert!(rt; wait(&rt, &mut book, 0, "(after 0)") == Ok(()));
+    assert!(rt; book.table().has(&FIRST));
+    drop(book);
+}
+
+fn waits_for_tick(
+    rt: &(impl Abort + AllocGlobal),
+    book: &mut Book<KeptRows>,
+    tick: u64,
+) -> Result<(), Fault> {
+    let group = Group::new(GroupKind::Leaf(Base::new(BaseKind::At(tick))));
     let waits = book.sync(rt.alloc(), Tid(0), &group);
-    assert!(rt; waits == Err(Fault::Refused(Refusal::Far)));
     drop(group);
+    waits
+}
+
+#[test]
+fn a_wait_is_refused_by_what_it_names(rt: HostRuntime) {
+    let mut book = book_of(&rt, 1);
+    for (text, why) in &REFUSED {
+        assert!(rt; wait(&rt, &mut book, 0, text) == Err(Fault::Refused(*why)));
+    }
+    for (tick, why) in &TICKS {
+        let waits = match why {
+            Some(why) => Err(Fault::Refused(*why)),
+            None => Ok(()),
+        };
+        assert!(rt; waits_for_tick(&rt, &mut book, *tick) == waits);
+    }
+    let again = waits_for_tick(&rt, &mut book, 0);
+    assert!(rt; again == Err(Fault::Refused(Refusal::State)));
     drop(book);
 }
 
 #[test]
-fn a_thousand_commands_are_done_and_one_more(rt: HostRuntime) {
-    let mut book = Book::new(rt.alloc(), OfferIndex::new(rt.alloc()));
-    let mut commands = Vec::new(rt.alloc());
-    for number in 0..1_000 {
-        let command = if number % 2 == 0 {
-            Command::Spawn
-        } else {
-            Command::MakeMailbox
-        };
-        assert!(rt; commands.push(command).is_ok());
-    }
-    let replies = book.run(rt.alloc(), commands).ok().expect(&rt, MEMORY);
-    assert!(rt; replies.len() == 1_000);
-    drop(replies);
-    let reply = book
-        .perform(rt.alloc(), Command::Spawn)
-        .ok()
-        .expect(&rt, MEMORY);
-    assert!(rt; matches!(reply, Reply::Thread(Tid(500))));
-    drop(reply);
-    assert!(rt; book.is_running(Tid(500)));
+fn a_book_knows_its_next_alarm(rt: HostRuntime) {
+    let mut book = book_of(&rt, 1);
+    assert!(rt; book.clock(rt.alloc(), 5) == Ok(()));
+    assert!(rt; book.now() == 5);
+    assert!(rt; book.next_alarm().is_none());
+    assert!(rt; waits_for_tick(&rt, &mut book, 7) == Ok(()));
+    assert!(rt; book.next_alarm() == Some(7));
+    let back = book.clock(rt.alloc(), 4);
+    assert!(rt; back == Err(Fault::Refused(Refusal::Clock)));
+    assert!(rt; book.clock(rt.alloc(), 7) == Ok(()));
+    assert!(rt; book.next_alarm().is_none());
+    assert!(rt; book.table().has(&FIRST));
     drop(book);
 }
 
@@ -556,14 +226,137 @@ fn a_light_is_lit_and_put_out(rt: HostRuntime) {
     drop(take);
 }
 
+// The thread waits on just the group that the text makes.
+fn waits_on(rt: &(impl Abort + AllocGlobal), book: &Book<KeptRows>, thread: u32, text: &str) {
+    let wanted = group(rt, text);
+    assert!(rt;
+        book.waiting(Tid(thread))
+            .expect(rt, "a group")
+            .same(&wanted),
+        "{text}"
+    );
+    drop(wanted);
+}
+
 #[test]
-fn an_arrival_is_told(rt: HostRuntime) {
-    let mut table = OfferIndex::new(rt.alloc());
-    let take = group(&rt, "(choose (mtake 0) (recv 0))");
-    let lights = [Light::MVar(MVarId(0))];
-    let came = Some((Tid(0), &take));
-    assert!(rt; table.change(rt.alloc(), &[], came, &lights, &[]).is_ok());
-    assert!(rt; table.has(&FIRST));
-    drop(take);
-    drop(table);
+fn a_book_tells_who_waits_for_what(rt: HostRuntime) {
+    let mut book = book_of(&rt, 2);
+    assert!(rt; book.waiting(Tid(0)).is_none() && book.is_running(Tid(0)));
+    assert!(rt; wait(&rt, &mut book, 0, "(recv 0)") == Ok(()));
+    assert!(rt; wait(&rt, &mut book, 1, "(choose (send 0 5) (at 7))") == Ok(()));
+    waits_on(&rt, &book, 0, "(recv 0)");
+    waits_on(&rt, &book, 1, "(choose (send 0 5) (at 7))");
+    assert!(rt; !book.is_running(Tid(1)) && !book.is_lit(Light::Joined(Tid(1))));
+    let committed = book.commit(rt.alloc(), EXCHANGE).expect(&rt, MEMORY);
+    drop(committed);
+    assert!(rt; book.waiting(Tid(0)).is_none() && book.waiting(Tid(1)).is_none());
+    assert!(rt; book.end(rt.alloc(), Tid(1)) == Ok(()));
+    assert!(rt; book.is_lit(Light::Joined(Tid(1))) && !book.is_lit(Light::Joined(Tid(0))));
+    assert!(rt; book.waiting(Tid(1)).is_none() && !book.is_running(Tid(1)));
+    assert!(rt; book.waiting(Tid(2)).is_none() && !book.is_lit(Light::Joined(Tid(2))));
+    drop(book);
+}
+
+// The object of the light gives the value that the text makes next.
+fn gives(rt: &(impl Abort + AllocGlobal), book: &Book<KeptRows>, light: Light, text: &str) {
+    let wanted = value(rt, text);
+    assert!(rt;
+        book.value(light).expect(rt, "a value").same(&wanted),
+        "{text}"
+    );
+    drop(wanted);
+}
+
+#[test]
+fn a_book_tells_what_variables_hold(rt: HostRuntime) {
+    let mut book = book_of(&rt, 1);
+    let (ivar, mvar) = (IVarId(0), MVarId(0));
+    assert!(rt; book.make_ivar() == Ok(ivar));
+    let made = book.make_mvar(rt.alloc(), None);
+    assert!(rt; made.expect(&rt, MEMORY) == mvar);
+    assert!(rt; !book.is_lit(Light::IVar(ivar)) && !book.is_lit(Light::MVar(mvar)));
+    assert!(rt; book.value(Light::IVar(ivar)).is_none());
+    let put = book.iput(rt.alloc(), ivar, value(&rt, "3"));
+    assert!(rt; put.is_ok());
+    assert!(rt; book.is_lit(Light::IVar(ivar)) && !book.is_lit(Light::MVar(mvar)));
+    let put = book.mput(rt.alloc(), mvar, value(&rt, "4"));
+    assert!(rt; put.is_ok());
+    assert!(rt; book.is_lit(Light::MVar(mvar)) && !book.is_lit(Light::MVar(MVarId(1))));
+    gives(&rt, &book, Light::IVar(ivar), "3");
+    gives(&rt, &book, Light::MVar(mvar), "4");
+    assert!(rt; wait(&rt, &mut book, 0, "(mtake 0)") == Ok(()));
+    let committed = book.commit(rt.alloc(), FIRST).expect(&rt, MEMORY);
+    goes_on(&rt, committed.head, 0, "4");
+    assert!(rt; !book.is_lit(Light::MVar(mvar)) && book.is_lit(Light::IVar(ivar)));
+    assert!(rt; book.value(Light::MVar(mvar)).is_none());
+    drop(book);
+}
+
+#[test]
+fn a_book_counts_what_is_queued(rt: HostRuntime) {
+    let mut book = book_of(&rt, 1);
+    let mailbox = book.make_mailbox(rt.alloc()).expect(&rt, MEMORY);
+    assert!(rt; book.mailbox_len(mailbox) == Some(0) && !book.is_lit(Light::Mbox(mailbox)));
+    for count in 1..4 {
+        assert!(rt; book.mail(rt.alloc(), mailbox, value(&rt, "7")).is_ok());
+        assert!(rt; book.mailbox_len(mailbox) == Some(count));
+    }
+    assert!(rt; book.is_lit(Light::Mbox(mailbox)));
+    assert!(rt; book.mail(rt.alloc(), mailbox, value(&rt, "9")).is_ok());
+    gives(&rt, &book, Light::Mbox(mailbox), "7");
+    assert!(rt; book.mailbox_len(MboxId(1)).is_none() && book.port_len(PortId(0)).is_none());
+    let channel = book.make_mchan(rt.alloc()).expect(&rt, MEMORY);
+    assert!(rt; channel == McastId(0));
+    let port = book.make_port(rt.alloc(), channel).expect(&rt, MEMORY);
+    assert!(rt; book.port_len(port) == Some(0) && book.value(Light::Port(port)).is_none());
+    for count in 1..3 {
+        assert!(rt; book.multicast(rt.alloc(), channel, value(&rt, "8")).is_ok());
+        assert!(rt; book.port_len(port) == Some(count));
+    }
+    gives(&rt, &book, Light::Port(port), "8");
+    assert!(rt; wait(&rt, &mut book, 0, "(portrecv 0)") == Ok(()));
+    let committed = book.commit(rt.alloc(), FIRST).expect(&rt, MEMORY);
+    goes_on(&rt, committed.head, 0, "8");
+    assert!(rt; book.port_len(port) == Some(1) && book.mailbox_len(mailbox) == Some(4));
+    drop(book);
+}
+
+#[test]
+fn a_book_tells_what_became_of_nacks(rt: HostRuntime) {
+    let mut book = book_of(&rt, 1);
+    for number in 0..2 {
+        assert!(rt; book.nack(Tid(0)) == Ok(NackId(number)));
+    }
+    assert!(rt; book.nack_state(NackId(0)) == Some(NackState::Fresh(Tid(0))));
+    assert!(rt; book.nack_state(NackId(2)).is_none());
+    let text = "(choose (scope 0 (always 1)) (scope 1 (recv 0)))";
+    assert!(rt; wait(&rt, &mut book, 0, text) == Ok(()));
+    assert!(rt; book.nack_state(NackId(0)) == Some(NackState::Live));
+    assert!(rt; book.nack_state(NackId(1)) == Some(NackState::Live));
+    let committed = book.commit(rt.alloc(), FIRST).expect(&rt, MEMORY);
+    drop(committed);
+    assert!(rt; book.nack_state(NackId(0)) == Some(NackState::Held));
+    assert!(rt; book.nack_state(NackId(1)) == Some(NackState::Fired));
+    assert!(rt; !book.is_lit(Light::Nack(NackId(0))) && book.is_lit(Light::Nack(NackId(1))));
+    drop(book);
+}
+
+#[test]
+fn a_book_numbers_its_next_objects(rt: HostRuntime) {
+    let mut book = book_of(&rt, 1);
+    let next = book.next_objects();
+    assert!(rt; next.channel == ChanId(1) && next.swap == SwapId(0));
+    assert!(rt; book.make_swap() == Ok(next.swap));
+    assert!(rt; book.make_ivar() == Ok(next.ivar));
+    let made = book.make_mvar(rt.alloc(), None);
+    assert!(rt; made.expect(&rt, MEMORY) == next.mvar);
+    assert!(rt; book.make_mailbox(rt.alloc()) == Ok(next.mailbox));
+    let channel = book.make_mchan(rt.alloc()).expect(&rt, MEMORY);
+    assert!(rt; channel == next.mchan);
+    assert!(rt; book.make_port(rt.alloc(), channel) == Ok(next.port));
+    let next = book.next_objects();
+    assert!(rt; next.channel == ChanId(1) && next.swap == SwapId(1));
+    assert!(rt; next.ivar == IVarId(1) && next.mvar == MVarId(1) && next.mailbox == MboxId(1));
+    assert!(rt; next.mchan == McastId(1) && next.port == PortId(1));
+    drop(book);
 }

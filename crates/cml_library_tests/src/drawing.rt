@@ -1,22 +1,15 @@
-//! Random commands, of all kinds of objects, as lines of a trace.
+//! Random commands, of all kinds of objects.
 
-use crate::lines::say;
 use crate::making::MEMORY;
+use cml_book::Command;
 use cml_scan::Meet;
-use cml_value::Tid;
+use cml_value::{
+    Base, BaseKind, ChanId, FnRef, Group, GroupKind, IVarId, MVarId, MboxId, McastId, NackId,
+    PortId, SwapId, Tid, Value, ValueKind,
+};
 use rand_core::Rng;
 use rand_pcg::Pcg32;
 use std::process::Abort;
-
-// Twenty base events. Those over which two threads meet come more often. A capital letter stands for a number that is drawn.
-const BASES: &str =
-    "(always V)/(iget O)/(mtake O)/(mget O)/(mswap O V)/(mailrecv O)/(portrecv O)/(join T)/(at S)/(after O)/(nack N)/(send O V)/(send O V)/(send 0 V)/(recv 0)/(recv O)/(swap 0 V)/(swap 0 V)/(swap O V)/(swap O V)";
-
-// Nine commands that make something.
-const MAKINGS: &str = "chan/swapchan/ivar/mvar/mvar ()/mailbox/mchan/port 0/spawn";
-
-// Eight commands on an object. All but the first two are given a value.
-const ON_OBJECTS: &str = "port/copy/iput/mput/mput/mail/mail/multicast";
 
 /// What is there when a command is drawn.
 #[derive(Clone, Copy)]
@@ -27,11 +20,6 @@ pub struct Seen {
     pub threads: u32,
     /// How many nacks were made.
     pub nacks: u32,
-}
-
-// The part of this number.
-fn part<'a>(rt: &impl Abort, parts: &'a str, n: u32) -> &'a str {
-    parts.split("/").nth(n as usize).expect(rt, parts)
 }
 
 // A number below eight.
@@ -49,118 +37,120 @@ fn late(random: &mut Pcg32, count: u32) -> u32 {
     count.saturating_sub(below_eight(random)).saturating_sub(1)
 }
 
-// The number that the letter stands for: an object, a value, a thread, a nack, or a tick a little after this one.
-fn drawn(random: &mut Pcg32, seen: &Seen, letter: char) -> u64 {
-    match letter {
-        'O' => u64::from(object(random)),
-        'V' => u64::from(below_eight(random)),
-        'T' => u64::from(late(random, seen.threads)),
-        'N' => u64::from(late(random, seen.nacks)),
-        _ => seen.now.saturating_add(u64::from(object(random))),
-    }
+fn number(random: &mut Pcg32) -> Value {
+    Value::new(ValueKind::Int(i64::from(below_eight(random))))
 }
 
-// Adds the pattern, with a number for each capital letter.
-fn fill(rt: &impl Abort, random: &mut Pcg32, seen: &Seen, pattern: &str, text: &mut String) {
-    for letter in pattern.chars() {
-        match letter {
-            'A'..='Z' => write!(text, "{}", drawn(random, seen, letter)).expect(rt, MEMORY),
-            _ => text.push(letter).expect(rt, MEMORY),
+// A tick a little after this one.
+fn soon(random: &mut Pcg32, now: u64) -> u64 {
+    now.saturating_add(u64::from(object(random)))
+}
+
+// A base event. Those over which two threads meet come more often.
+fn base(random: &mut Pcg32, seen: &Seen) -> Base {
+    Base::new(match random.next_u32() % 20 {
+        0 => BaseKind::Always(number(random)),
+        1 => BaseKind::IGet(IVarId(object(random))),
+        2 => BaseKind::MTake(MVarId(object(random))),
+        3 => BaseKind::MGet(MVarId(object(random))),
+        4 => BaseKind::MSwap(MVarId(object(random)), number(random)),
+        5 => BaseKind::MailRecv(MboxId(object(random))),
+        6 => BaseKind::PortRecv(PortId(object(random))),
+        7 => BaseKind::Join(Tid(late(random, seen.threads))),
+        8 => BaseKind::At(soon(random, seen.now)),
+        9 => BaseKind::After(u64::from(object(random))),
+        10 => BaseKind::Nack(NackId(late(random, seen.nacks))),
+        11 | 12 => BaseKind::Send(ChanId(object(random)), number(random)),
+        13 => BaseKind::Send(ChanId(0), number(random)),
+        14 => BaseKind::Recv(ChanId(0)),
+        15 => BaseKind::Recv(ChanId(object(random))),
+        16 | 17 => BaseKind::Swap(SwapId(0), number(random)),
+        _ => BaseKind::Swap(SwapId(object(random)), number(random)),
+    })
+}
+
+// A base event, or one in a wrap or under a scope.
+fn member(rt: &(impl Abort + AllocGlobal), random: &mut Pcg32, seen: &Seen) -> Group {
+    let leaf = Group::new(GroupKind::Leaf(base(random, seen)));
+    match below_eight(random) {
+        0 | 1 => {
+            let function = FnRef::new(rt.alloc(), 7, Vec::new(rt.alloc())).expect(rt, MEMORY);
+            leaf.wrap(rt.alloc(), function).expect(rt, MEMORY)
         }
+        2 | 3 => {
+            let nack = NackId(seen.nacks.saturating_sub(1));
+            leaf.scope(rt.alloc(), nack).expect(rt, MEMORY)
+        }
+        _ => leaf,
     }
 }
 
-// Adds a base event, or one in a wrap or under a scope.
-fn push_member(
-    rt: &(impl Abort + AllocGlobal),
-    random: &mut Pcg32,
-    seen: &Seen,
-    text: &mut String,
-) {
-    let base = part(rt, BASES, random.next_u32() % 20);
-    let mut leaf = String::new(rt.alloc());
-    fill(rt, random, seen, base, &mut leaf);
-    let pushed = match below_eight(random) {
-        0 | 1 => write!(text, " (wrap {leaf} 7)"),
-        2 | 3 => write!(text, " (scope {} {leaf})", seen.nacks.saturating_sub(1)),
-        _ => write!(text, " {leaf}"),
-    };
-    pushed.expect(rt, MEMORY);
-    drop(leaf);
-}
-
-// Adds a choice of up to seven members.
-fn push_choice(
-    rt: &(impl Abort + AllocGlobal),
-    random: &mut Pcg32,
-    seen: &Seen,
-    text: &mut String,
-) {
-    say(rt, text, "(choose");
+// A choice of up to seven members.
+fn choice(rt: &(impl Abort + AllocGlobal), random: &mut Pcg32, seen: &Seen) -> Group {
+    let mut members = Vec::new(rt.alloc());
     for _ in 0..below_eight(random) {
-        push_member(rt, random, seen, text);
+        let member = member(rt, random, seen);
+        members.push(member).expect(rt, MEMORY);
     }
-    say(rt, text, ")");
+    Group::choose(rt.alloc(), members).expect(rt, MEMORY)
 }
 
-// Adds a command on an object.
-fn push_on_object(rt: &impl Abort, random: &mut Pcg32, text: &mut String) {
+// A command on an object.
+fn object_command(random: &mut Pcg32) -> Command {
     let object = object(random);
-    let value = below_eight(random);
-    let kind = below_eight(random);
-    let word = part(rt, ON_OBJECTS, kind);
-    write!(text, "{word} {object}").expect(rt, MEMORY);
-    if kind > 1 {
-        write!(text, " {value}").expect(rt, MEMORY);
+    let value = number(random);
+    match below_eight(random) {
+        0 => Command::MakePort(McastId(object)),
+        1 => Command::CopyPort(PortId(object)),
+        2 => Command::IPut(IVarId(object), value),
+        3 | 4 => Command::MPut(MVarId(object), value),
+        5 | 6 => Command::Mail(MboxId(object), value),
+        _ => Command::Multicast(McastId(object), value),
     }
 }
 
 /// A command that makes something, of nine.
-pub fn making(rt: &impl Abort, kind: u32) -> &'static str {
-    part(rt, MAKINGS, kind % 9)
+pub fn making(kind: u32) -> Command {
+    match kind % 9 {
+        0 => Command::MakeChan,
+        1 => Command::MakeSwap,
+        2 => Command::MakeIVar,
+        3 => Command::MakeMVar(None),
+        4 => Command::MakeMVar(Some(Value::new(ValueKind::Unit))),
+        5 => Command::MakeMailbox,
+        6 => Command::MakeMChan,
+        7 => Command::MakePort(McastId(0)),
+        _ => Command::Spawn,
+    }
 }
 
-// One of the rows, or one that is not there.
-fn taken(random: &mut Pcg32, rows: &[Meet]) -> Meet {
+// The taking of one of the rows, or of one that is not there.
+fn taking(random: &mut Pcg32, rows: &[Meet]) -> Command {
     let k = random.next_u32() as usize;
-    match k.checked_rem(rows.len()) {
+    Command::Commit(match k.checked_rem(rows.len()) {
         Some(k) => rows[k],
         None => Meet::Single {
             tid: Tid(0),
             leaf: 0,
         },
-    }
+    })
 }
 
-/// Adds the next command, and gives the row that it takes, if it takes one. One in three is a wait, and one in three takes a row.
+/// The next command. One in three is a wait, and one in three commits a row.
 pub fn draw(
     rt: &(impl Abort + AllocGlobal),
     random: &mut Pcg32,
     seen: &Seen,
     rows: &[Meet],
-    text: &mut String,
-) -> Option<Meet> {
-    let kind = random.next_u32() % 24;
-    let pattern = match kind {
-        0 => making(rt, random.next_u32()),
-        1 => "spawn",
-        2 => "end T",
-        5 => "clock S",
-        6 => "nack T",
-        7..=14 => "commit",
-        15..=23 => "sync T ",
-        _ => "",
-    };
-    fill(rt, random, seen, pattern, text);
-    match kind {
-        3 | 4 => push_on_object(rt, random, text),
-        7..=14 => {
-            let row = taken(random, rows);
-            row.push_numbers(text).expect(rt, MEMORY);
-            return Some(row);
-        }
-        15..=23 => push_choice(rt, random, seen, text),
-        _ => {}
+) -> Command {
+    match random.next_u32() % 24 {
+        0 => making(random.next_u32()),
+        1 => Command::Spawn,
+        2 => Command::End(Tid(late(random, seen.threads))),
+        3 | 4 => object_command(random),
+        5 => Command::Clock(soon(random, seen.now)),
+        6 => Command::Nack(Tid(late(random, seen.threads))),
+        7..=14 => taking(random, rows),
+        _ => Command::Sync(Tid(late(random, seen.threads)), choice(rt, random, seen)),
     }
-    None
 }

@@ -2,9 +2,9 @@
 #![tactic(auto)]
 
 #[cfg(test)]
-mod books;
+mod ample;
 #[cfg(test)]
-mod cases;
+mod books;
 #[cfg(test)]
 mod checks;
 pub mod choosing;
@@ -20,8 +20,6 @@ mod hubs;
 mod kinds;
 #[cfg(test)]
 mod lanes;
-#[cfg(test)]
-mod lines;
 #[cfg(test)]
 mod machines;
 #[cfg(test)]
@@ -40,7 +38,5 @@ mod stacks;
 mod tables;
 #[cfg(test)]
 mod texts;
-#[cfg(test)]
-mod traces;
 #[cfg(test)]
 mod values;

@@ -8,9 +8,7 @@ ghost use Rattle.cml_step.specs.{Agrees.{value_agrees, base_agrees, event_agrees
 ghost use Rattle.cml_step.specs.{AnswerViews.{plain_answer}, AskViews.{plain_ask}, Machines.{machine_term, Fits}};
 ghost use Rattle.cml_step.specs.Answers as answers;
 
-use crate::cases::{Cases, hold};
-use crate::lines::say;
-use crate::making::{MEMORY, make, program_of, script_of};
+use crate::making::{ADDITION, CANCELLED, MEMORY, SWAPPED, make, program_of};
 use cml_check::Prog;
 use cml_step::{Answer, Ask, Machine, Undo, run_slice, slice};
 use cml_value::{
@@ -23,129 +21,318 @@ use std::process::Abort;
 // A script, and for each slice of its thread 0 how many steps it takes and what it asks; after `then` the same of the thread that it
 // spawns. That is thread 1, each new object is number 0, and the tick is 5. A synchronization is committed by the last leaf of its
 // group, which gets 41 where it receives something; one without leaves waits for ever. A thread is watched for six slices.
-const SCRIPTS: &str = r#"
-; a run of it takes turns of the threads 0, 0, 1 and 0 up to the commit, with 1, 1, 2 and 2 steps, and then of 1, 0 and 0, with 2, 4 and 1.
-ADDITION => 1 chan, 1 spawn 1, 2 sync, 4 print 42, 1 end then 2 sync, 2 end
-CANCELLED => 1 chan, 2 nack, 1 spawn 0, 2 sync, 2 print 7, 1 end then 2 sync, 2 print "cancelled", 1 end
-SWAPPED => 1 swapchan, 1 spawn 0, 2 sync, 2 print 41, 1 end then 2 sync, 2 print 41, 1 end
-; slices of 1,000 steps, without end
-(fn main () (while true)) => 1000 nothing, 1000 nothing, 1000 nothing, 1000 nothing, 1000 nothing, 1000 nothing
-(fn g () (return (guard g))) (fn main () (sync (guard g))) => 1000 nothing, 1000 nothing, 1000 nothing, 1000 nothing, 1000 nothing, 1000 nothing
-; an ask at the thousandth step, and one after it
-(fn main () (let x 498) (let y x) (while (< 0 x) (set x (- x 1))) (yield)) => 1000 yield, 1 end
-(fn main () (let x 498) (let y x) (let z y) (while (< 0 x) (set x (- x 1))) (yield)) => 1000 nothing, 1 yield, 1 end
-; the end
-(fn main ()) => 1 end
-(fn main () (exit) (yield)) => 1 end
-(fn main () (return 1) (yield)) => 1 end
-(fn f () (exit)) (fn main () (call f) (yield)) => 2 end
-(fn g () (exit)) (fn main () (sync (guard g)) (yield)) => 3 end
-(fn g (n) (exit)) (fn main () (sync (withnack g)) (yield)) => 2 nack, 1 end
-(fn f (x) (exit)) (fn main () (sync (wrap (always 1) f)) (yield)) => 2 sync, 2 end
-; what a thread asks
-(fn main () (yield)) => 1 yield, 1 end
-(fn f (x y) (print (- x y))) (fn main () (let t (spawn f 9 2)) (print t)) => 1 spawn 0, 1 print (thread 1), 1 end then 1 print 7, 1 end
-(fn main () (let x (self)) (print x)) => 2 print (thread 0), 1 end
-(fn main () (let x (now)) (print (+ x 1))) => 1 now, 1 print 6, 1 end
-(fn main () (let c (chan)) (print c)) => 1 chan, 1 print (chan 0), 1 end
-(fn main () (let s (swapchan)) (print s)) => 1 swapchan, 1 print (swapchan 0), 1 end
-(fn main () (let i (ivar)) (iput i 1)) => 1 ivar, 1 iput 0 1, 1 end
-(fn main () (let m (mvar)) (mput m 2)) => 1 mvar, 1 mput 0 2, 1 end
-(fn main () (let m (mvar 3))) => 1 mvar 3, 1 end
-(fn main () (let b (mailbox)) (mail b 4)) => 1 mailbox, 1 mail 0 4, 1 end
-(fn main () (let x (mchan)) (let p (port x)) (let q (copy p)) (multicast x q)) => 1 mchan, 1 port 0, 1 copy 0, 1 multicast 0 (port 0), 1 end
-; variables
-(fn main () (let x 1) (set x (+ x 1)) (print x)) => 3 print 2, 1 end
-(fn main () (if false (do (let x 1)) (do)) (print x)) => 2 print (), 1 end
-(fn main () (let x (yield)) (print x)) => 1 yield, 1 print (), 1 end
-; conditions and loops
-(fn main () (let x 1) (let x (+ x 1)) (if (= x 2) (do (yield)) (do (exit)))) => 4 yield, 1 end
-(fn main () (let x 1) (if (< x 1) (do (yield)) (do (exit)))) => 3 end
-(fn main () (let x 3) (while (< 0 x) (set x (- x 1))) (print (* x 2))) => 9 print 0, 1 end
-; calls
-(fn f (a) (return (not a))) (fn main () (let x (call f false)) (print x)) => 3 print true, 1 end
-(fn f (a)) (fn main () (let x (call f 1)) (print x)) => 3 print (), 1 end
-(fn f () (return 1)) (fn main () (call f)) => 3 end
-; values
-(fn main () (print (pair unit (pair true "a")))) => 1 print (pair () (pair true "a")), 1 end
-(fn main () (print (fst (pair 6 7))) (print (snd (pair 6 7)))) => 1 print 6, 1 print 7, 1 end
-(fn main () (print never)) => 1 print event, 1 end
-(fn main () (print (= 1 true)) (print (= (pair 1 never) (pair 1 never)))) => 1 print false, 1 print true, 1 end
-(fn f (a)) (fn main () (print (= (wrap never f) (wrap never f))) (print (= (at 1) (after 1)))) => 1 print true, 1 print false, 1 end
-; events that are forced and committed
-(fn main () (sync never)) => 2 sync
-(fn main () (sync (always 1))) => 2 sync, 2 end
-(fn g () (return (always 1))) (fn main () (sync (choose (guard g) (guard g)))) => 6 sync, 2 end
-(fn a (x) (return (+ x 1))) (fn b (x) (return (* x 2))) (fn main () (let x (sync (wrap (wrap (always 41) a) b))) (print x)) => 2 sync, 6 print 84, 1 end
-; a value of the wrong kind
-(fn main () (print (+ 1 true))) => 1 kind
-(fn f (a) (return (snd a))) (fn main () (let x (call f 1)) (print x)) => 2 kind
-(fn main () (sync (choose never (iget 1)))) => 1 kind
-(fn main () (sync (swap 5 1))) => 1 kind
-(fn main () (let c (chan)) (sync (swap c 1))) => 1 chan, 1 kind
-(fn main () (let s (swapchan)) (sync (send s 1))) => 1 swapchan, 1 kind
-(fn main () (sync 5)) => 1 kind
-(fn main () (if 5 (do) (do))) => 1 kind
-(fn main () (while 5)) => 1 kind
-(fn main () (port 5)) => 1 kind
-(fn main () (iput 5 5)) => 1 kind
-(fn g ()) (fn main () (sync (guard g))) => 3 kind
-(fn g (n)) (fn main () (sync (withnack g))) => 2 nack, 1 kind
-; all parts before what is made of them
-(fn main () (print (+ true (+ 9223372036854775807 1)))) => 1 overflow
-(fn main () (sync (choose 1 (at -1)))) => 1 range
-(fn main () (sync (swap 5 (at -1)))) => 1 range
-(fn main () (iput 5 (after -1))) => 1 range
-; numbers
-(fn main () (print (+ 9223372036854775807 1))) => 1 overflow
-(fn main () (print (- -9223372036854775808 1))) => 1 overflow
-(fn main () (print (* 4611686018427387904 2))) => 1 overflow
-(fn main () (print (* 4611686018427387904 -2))) => 1 print -9223372036854775808, 1 end
-(fn main () (sync (at -1))) => 1 range
-; too many nodes of a value, levels of an event, and levels of one that is forced
-(fn main () (let x 1) (while true (set x (pair x x)))) => 33 deep
-(fn main () (let e never) (while true (set e (choose e)))) => 129 deep
-(fn g () (return (choose (guard g)))) (fn main () (sync (guard g))) => 129 deep
-; 1,024 entries of the stack, and the next one: a call, an event, and the functions of a guard and of a wrap
-(fn f () (call f)) (fn main () (call f)) => 1000 nothing, 24 stack
-(fn f (a) (if (= a 0) (do (sync never)) (do (call f (- a 1))))) (fn main () (call f 1021)) => 1000 nothing, 1000 nothing, 46 sync
-(fn f (a) (if (= a 0) (do (sync never)) (do (call f (- a 1))))) (fn main () (call f 1022)) => 1000 nothing, 1000 nothing, 47 stack
-(fn f (a) (if (= a 0) (do (sync (guard g))) (do (call f (- a 1))))) (fn g () (return never)) (fn main () (call f 1020)) => 1000 nothing, 1000 nothing, 46 sync
-(fn f (a) (if (= a 0) (do (sync (guard g))) (do (call f (- a 1))))) (fn g () (return never)) (fn main () (call f 1021)) => 1000 nothing, 1000 nothing, 46 stack
-(fn f (a) (if (= a 0) (do (sync (wrap (always 1) g))) (do (call f (- a 1))))) (fn g (x)) (fn main () (call f 1020)) => 1000 nothing, 1000 nothing, 44 sync, 1000 nothing, 25 end
-(fn f (a) (if (= a 0) (do (sync (wrap (always 1) g))) (do (call f (- a 1))))) (fn g (x)) (fn main () (call f 1021)) => 1000 nothing, 1000 nothing, 46 sync, 1 stack
-; a withNack asks for its nack where its function has room, and for none where it has not
-(fn f (a) (if (= a 0) (do (sync (withnack g))) (do (call f (- a 1))))) (fn g (n) (return (always 1))) (fn main () (call f 1020)) => 1000 nothing, 1000 nothing, 44 nack, 2 sync, 1000 nothing, 23 end
-(fn f (a) (if (= a 0) (do (sync (withnack g))) (do (call f (- a 1))))) (fn g (n) (return (always 1))) (fn main () (call f 1021)) => 1000 nothing, 1000 nothing, 46 stack
-"#;
+const SCRIPTS: [(&str, &str); 77] = [
+    // a run of it takes turns of the threads 0, 0, 1 and 0 up to the commit, with 1, 1, 2 and 2 steps, and then of 1, 0 and 0, with 2, 4 and 1.
+    (
+        ADDITION,
+        "1 chan, 1 spawn 1, 2 sync, 4 print 42, 1 end then 2 sync, 2 end",
+    ),
+    (
+        CANCELLED,
+        "1 chan, 2 nack, 1 spawn 0, 2 sync, 2 print 7, 1 end then 2 sync, 2 print \"cancelled\", 1 end",
+    ),
+    (
+        SWAPPED,
+        "1 swapchan, 1 spawn 0, 2 sync, 2 print 41, 1 end then 2 sync, 2 print 41, 1 end",
+    ),
+    // slices of 1,000 steps, without end
+    (
+        "(fn main () (while true))",
+        "1000 nothing, 1000 nothing, 1000 nothing, 1000 nothing, 1000 nothing, 1000 nothing",
+    ),
+    (
+        "(fn g () (return (guard g))) (fn main () (sync (guard g)))",
+        "1000 nothing, 1000 nothing, 1000 nothing, 1000 nothing, 1000 nothing, 1000 nothing",
+    ),
+    // an ask at the thousandth step, and one after it
+    (
+        "(fn main () (let x 498) (let y x) (while (< 0 x) (set x (- x 1))) (yield))",
+        "1000 yield, 1 end",
+    ),
+    (
+        "(fn main () (let x 498) (let y x) (let z y) (while (< 0 x) (set x (- x 1))) (yield))",
+        "1000 nothing, 1 yield, 1 end",
+    ),
+    // the end
+    ("(fn main ())", "1 end"),
+    ("(fn main () (exit) (yield))", "1 end"),
+    ("(fn main () (return 1) (yield))", "1 end"),
+    ("(fn f () (exit)) (fn main () (call f) (yield))", "2 end"),
+    (
+        "(fn g () (exit)) (fn main () (sync (guard g)) (yield))",
+        "3 end",
+    ),
+    (
+        "(fn g (n) (exit)) (fn main () (sync (withnack g)) (yield))",
+        "2 nack, 1 end",
+    ),
+    (
+        "(fn f (x) (exit)) (fn main () (sync (wrap (always 1) f)) (yield))",
+        "2 sync, 2 end",
+    ),
+    // what a thread asks
+    ("(fn main () (yield))", "1 yield, 1 end"),
+    (
+        "(fn f (x y) (print (- x y))) (fn main () (let t (spawn f 9 2)) (print t))",
+        "1 spawn 0, 1 print (thread 1), 1 end then 1 print 7, 1 end",
+    ),
+    (
+        "(fn main () (let x (self)) (print x))",
+        "2 print (thread 0), 1 end",
+    ),
+    (
+        "(fn main () (let x (now)) (print (+ x 1)))",
+        "1 now, 1 print 6, 1 end",
+    ),
+    (
+        "(fn main () (let c (chan)) (print c))",
+        "1 chan, 1 print (chan 0), 1 end",
+    ),
+    (
+        "(fn main () (let s (swapchan)) (print s))",
+        "1 swapchan, 1 print (swapchan 0), 1 end",
+    ),
+    (
+        "(fn main () (let i (ivar)) (iput i 1))",
+        "1 ivar, 1 iput 0 1, 1 end",
+    ),
+    (
+        "(fn main () (let m (mvar)) (mput m 2))",
+        "1 mvar, 1 mput 0 2, 1 end",
+    ),
+    ("(fn main () (let m (mvar 3)))", "1 mvar 3, 1 end"),
+    (
+        "(fn main () (let b (mailbox)) (mail b 4))",
+        "1 mailbox, 1 mail 0 4, 1 end",
+    ),
+    (
+        "(fn main () (let x (mchan)) (let p (port x)) (let q (copy p)) (multicast x q))",
+        "1 mchan, 1 port 0, 1 copy 0, 1 multicast 0 (port 0), 1 end",
+    ),
+    // variables
+    (
+        "(fn main () (let x 1) (set x (+ x 1)) (print x))",
+        "3 print 2, 1 end",
+    ),
+    (
+        "(fn main () (if false (do (let x 1)) (do)) (print x))",
+        "2 print (), 1 end",
+    ),
+    (
+        "(fn main () (let x (yield)) (print x))",
+        "1 yield, 1 print (), 1 end",
+    ),
+    // conditions and loops
+    (
+        "(fn main () (let x 1) (let x (+ x 1)) (if (= x 2) (do (yield)) (do (exit))))",
+        "4 yield, 1 end",
+    ),
+    (
+        "(fn main () (let x 1) (if (< x 1) (do (yield)) (do (exit))))",
+        "3 end",
+    ),
+    (
+        "(fn main () (let x 3) (while (< 0 x) (set x (- x 1))) (print (* x 2)))",
+        "9 print 0, 1 end",
+    ),
+    // calls
+    (
+        "(fn f (a) (return (not a))) (fn main () (let x (call f false)) (print x))",
+        "3 print true, 1 end",
+    ),
+    (
+        "(fn f (a)) (fn main () (let x (call f 1)) (print x))",
+        "3 print (), 1 end",
+    ),
+    ("(fn f () (return 1)) (fn main () (call f))", "3 end"),
+    // values
+    (
+        "(fn main () (print (pair unit (pair true \"a\"))))",
+        "1 print (pair () (pair true \"a\")), 1 end",
+    ),
+    (
+        "(fn main () (print (fst (pair 6 7))) (print (snd (pair 6 7))))",
+        "1 print 6, 1 print 7, 1 end",
+    ),
+    ("(fn main () (print never))", "1 print event, 1 end"),
+    (
+        "(fn main () (print (= 1 true)) (print (= (pair 1 never) (pair 1 never))))",
+        "1 print false, 1 print true, 1 end",
+    ),
+    (
+        "(fn f (a)) (fn main () (print (= (wrap never f) (wrap never f))) (print (= (at 1) (after 1))))",
+        "1 print true, 1 print false, 1 end",
+    ),
+    // events that are forced and committed
+    ("(fn main () (sync never))", "2 sync"),
+    ("(fn main () (sync (always 1)))", "2 sync, 2 end"),
+    (
+        "(fn g () (return (always 1))) (fn main () (sync (choose (guard g) (guard g))))",
+        "6 sync, 2 end",
+    ),
+    (
+        "(fn a (x) (return (+ x 1))) (fn b (x) (return (* x 2))) (fn main () (let x (sync (wrap (wrap (always 41) a) b))) (print x))",
+        "2 sync, 6 print 84, 1 end",
+    ),
+    // a value of the wrong kind
+    ("(fn main () (print (+ 1 true)))", "1 kind"),
+    (
+        "(fn f (a) (return (snd a))) (fn main () (let x (call f 1)) (print x))",
+        "2 kind",
+    ),
+    ("(fn main () (sync (choose never (iget 1))))", "1 kind"),
+    ("(fn main () (sync (swap 5 1)))", "1 kind"),
+    (
+        "(fn main () (let c (chan)) (sync (swap c 1)))",
+        "1 chan, 1 kind",
+    ),
+    (
+        "(fn main () (let s (swapchan)) (sync (send s 1)))",
+        "1 swapchan, 1 kind",
+    ),
+    ("(fn main () (sync 5))", "1 kind"),
+    ("(fn main () (if 5 (do) (do)))", "1 kind"),
+    ("(fn main () (while 5))", "1 kind"),
+    ("(fn main () (port 5))", "1 kind"),
+    ("(fn main () (iput 5 5))", "1 kind"),
+    ("(fn g ()) (fn main () (sync (guard g)))", "3 kind"),
+    (
+        "(fn g (n)) (fn main () (sync (withnack g)))",
+        "2 nack, 1 kind",
+    ),
+    // all parts before what is made of them
+    (
+        "(fn main () (print (+ true (+ 9223372036854775807 1))))",
+        "1 overflow",
+    ),
+    ("(fn main () (sync (choose 1 (at -1))))", "1 range"),
+    ("(fn main () (sync (swap 5 (at -1))))", "1 range"),
+    ("(fn main () (iput 5 (after -1)))", "1 range"),
+    // numbers
+    (
+        "(fn main () (print (+ 9223372036854775807 1)))",
+        "1 overflow",
+    ),
+    (
+        "(fn main () (print (- -9223372036854775808 1)))",
+        "1 overflow",
+    ),
+    (
+        "(fn main () (print (* 4611686018427387904 2)))",
+        "1 overflow",
+    ),
+    (
+        "(fn main () (print (* 4611686018427387904 -2)))",
+        "1 print -9223372036854775808, 1 end",
+    ),
+    ("(fn main () (sync (at -1)))", "1 range"),
+    // too many nodes of a value, levels of an event, and levels of one that is forced
+    (
+        "(fn main () (let x 1) (while true (set x (pair x x))))",
+        "33 deep",
+    ),
+    (
+        "(fn main () (let e never) (while true (set e (choose e))))",
+        "129 deep",
+    ),
+    (
+        "(fn g () (return (choose (guard g)))) (fn main () (sync (guard g)))",
+        "129 deep",
+    ),
+    // 1,024 entries of the stack, and the next one: a call, an event, and the functions of a guard and of a wrap
+    (
+        "(fn f () (call f)) (fn main () (call f))",
+        "1000 nothing, 24 stack",
+    ),
+    (
+        "(fn f (a) (if (= a 0) (do (sync never)) (do (call f (- a 1))))) (fn main () (call f 1021))",
+        "1000 nothing, 1000 nothing, 46 sync",
+    ),
+    (
+        "(fn f (a) (if (= a 0) (do (sync never)) (do (call f (- a 1))))) (fn main () (call f 1022))",
+        "1000 nothing, 1000 nothing, 47 stack",
+    ),
+    (
+        "(fn f (a) (if (= a 0) (do (sync (guard g))) (do (call f (- a 1))))) (fn g () (return never)) (fn main () (call f 1020))",
+        "1000 nothing, 1000 nothing, 46 sync",
+    ),
+    (
+        "(fn f (a) (if (= a 0) (do (sync (guard g))) (do (call f (- a 1))))) (fn g () (return never)) (fn main () (call f 1021))",
+        "1000 nothing, 1000 nothing, 46 stack",
+    ),
+    (
+        "(fn f (a) (if (= a 0) (do (sync (wrap (always 1) g))) (do (call f (- a 1))))) (fn g (x)) (fn main () (call f 1020))",
+        "1000 nothing, 1000 nothing, 44 sync, 1000 nothing, 25 end",
+    ),
+    (
+        "(fn f (a) (if (= a 0) (do (sync (wrap (always 1) g))) (do (call f (- a 1))))) (fn g (x)) (fn main () (call f 1021))",
+        "1000 nothing, 1000 nothing, 46 sync, 1 stack",
+    ),
+    // a withNack asks for its nack where its function has room, and for none where it has not
+    (
+        "(fn f (a) (if (= a 0) (do (sync (withnack g))) (do (call f (- a 1))))) (fn g (n) (return (always 1))) (fn main () (call f 1020))",
+        "1000 nothing, 1000 nothing, 44 nack, 2 sync, 1000 nothing, 23 end",
+    ),
+    (
+        "(fn f (a) (if (= a 0) (do (sync (withnack g))) (do (call f (- a 1))))) (fn g (n) (return (always 1))) (fn main () (call f 1021))",
+        "1000 nothing, 1000 nothing, 46 stack",
+    ),
+];
 
 // A script, and the groups that its thread 0 synchronizes on, and then the thread that it spawns, as traces spell them.
-const GROUPS: &str = r#"
-ADDITION => (wrap (recv 0) 0 1) (send 0 41)
-; the branch of the nack, and the value at once; and the other thread, which waits until the branch is cancelled
-CANCELLED => (choose (scope 0 (recv 0)) (always 7)) (nack 0)
-SWAPPED => (swap 0 1) (swap 0 2)
-(fn main () (sync never)) => never
-(fn main () (sync (always "a"))) => (always "a")
-(fn main () (let c (chan)) (sync (send c unit))) => (send 0 ())
-(fn main () (let c (chan)) (sync (recv c))) => (recv 0)
-(fn main () (let i (ivar)) (sync (iget i))) => (iget 0)
-(fn main () (let m (mvar)) (sync (mtake m))) => (mtake 0)
-(fn main () (let m (mvar)) (sync (mget m))) => (mget 0)
-(fn main () (let m (mvar)) (sync (mswap m 1))) => (mswap 0 1)
-(fn main () (let b (mailbox)) (sync (mailrecv b))) => (mailrecv 0)
-(fn main () (let x (mchan)) (let p (port x)) (sync (portrecv p))) => (portrecv 0)
-(fn main () (let t (self)) (sync (join t))) => (join 0)
-(fn main () (sync (at 3))) => (at 3)
-(fn main () (sync (after 4))) => (after 4)
-(fn main () (sync (choose))) => (choose)
-(fn main () (sync (choose never (at 3) (choose (after 4))))) => (choose never (at 3) (choose (after 4)))
-(fn f (a b c)) (fn main () (sync (wrap never f 1 true))) => (wrap never 0 1 true)
-(fn g (a b) (return (at (- a b)))) (fn main () (sync (guard g 9 2))) => (at 7)
-(fn g (a n) (return (choose n (at a)))) (fn main () (sync (withnack g 3))) => (scope 0 (choose (nack 0) (at 3)))
-; a guard among captured values is not forced
-(fn g () (exit)) (fn main () (sync (always (guard g)))) => (always (event (guard 0)))
-"#;
+const GROUPS: [(&str, &str); 22] = [
+    (ADDITION, "(wrap (recv 0) 0 1) (send 0 41)"),
+    // the branch of the nack, and the value at once; and the other thread, which waits until the branch is cancelled
+    (CANCELLED, "(choose (scope 0 (recv 0)) (always 7)) (nack 0)"),
+    (SWAPPED, "(swap 0 1) (swap 0 2)"),
+    ("(fn main () (sync never))", "never"),
+    ("(fn main () (sync (always \"a\")))", r#"(always "a")"#),
+    (
+        "(fn main () (let c (chan)) (sync (send c unit)))",
+        "(send 0 ())",
+    ),
+    ("(fn main () (let c (chan)) (sync (recv c)))", "(recv 0)"),
+    ("(fn main () (let i (ivar)) (sync (iget i)))", "(iget 0)"),
+    ("(fn main () (let m (mvar)) (sync (mtake m)))", "(mtake 0)"),
+    ("(fn main () (let m (mvar)) (sync (mget m)))", "(mget 0)"),
+    (
+        "(fn main () (let m (mvar)) (sync (mswap m 1)))",
+        "(mswap 0 1)",
+    ),
+    (
+        "(fn main () (let b (mailbox)) (sync (mailrecv b)))",
+        "(mailrecv 0)",
+    ),
+    (
+        "(fn main () (let x (mchan)) (let p (port x)) (sync (portrecv p)))",
+        "(portrecv 0)",
+    ),
+    ("(fn main () (let t (self)) (sync (join t)))", "(join 0)"),
+    ("(fn main () (sync (at 3)))", "(at 3)"),
+    ("(fn main () (sync (after 4)))", "(after 4)"),
+    ("(fn main () (sync (choose)))", "(choose)"),
+    (
+        "(fn main () (sync (choose never (at 3) (choose (after 4)))))",
+        "(choose never (at 3) (choose (after 4)))",
+    ),
+    (
+        "(fn f (a b c)) (fn main () (sync (wrap never f 1 true)))",
+        "(wrap never 0 1 true)",
+    ),
+    (
+        "(fn g (a b) (return (at (- a b)))) (fn main () (sync (guard g 9 2)))",
+        "(at 7)",
+    ),
+    (
+        "(fn g (a n) (return (choose n (at a)))) (fn main () (sync (withnack g 3)))",
+        "(scope 0 (choose (nack 0) (at 3)))",
+    ),
+    // a guard among captured values is not forced
+    (
+        "(fn g () (exit)) (fn main () (sync (always (guard g))))",
+        "(always (event (guard 0)))",
+    ),
+];
 
 // What was seen of a script's threads: the steps of each slice and what it asked, and the groups.
 #[derive(Drop)]
@@ -430,7 +617,7 @@ fn course_of(rt: &(impl Abort + AllocGlobal), script: &str) -> Course {
     let main = FnRef::new(rt.alloc(), program.main(), Vec::new(rt.alloc())).expect(rt, MEMORY);
     let spawned = watch(rt, &program, Tid(0), main, &mut course);
     if let Some(function) = spawned {
-        say(rt, &mut course.text, " then ");
+        course.text.push_str(" then ").expect(rt, MEMORY);
         let more = watch(rt, &program, Tid(1), function, &mut course);
         drop(more);
     }
@@ -438,27 +625,25 @@ fn course_of(rt: &(impl Abort + AllocGlobal), script: &str) -> Course {
     course
 }
 
-/// The threads of the script are seen to do this.
-pub fn goes_so(rt: &(impl Abort + AllocGlobal), script: &str, wanted: &str) {
-    let course = course_of(rt, script_of(script));
-    assert!(rt; course.text.as_str() == wanted, "{script}");
-    drop(course);
-}
-
-/// The threads of the script synchronize on these groups.
-pub fn synchronizes_on(rt: &(impl Abort + AllocGlobal), script: &str, groups: &str) {
-    let course = course_of(rt, script_of(script));
-    let wanted = make(rt, groups);
-    assert!(rt; course.groups.len() == wanted.groups.len(), "{script}");
-    for (group, wanted) in course.groups.iter().zip(wanted.groups.iter()) {
-        assert!(rt; group.same(wanted), "{script}");
+#[test]
+fn scripts_go_so(rt: HostRuntime) {
+    for (script, wanted) in &SCRIPTS {
+        let course = course_of(&rt, script);
+        assert!(rt; course.text.as_str() == *wanted, "{script}");
+        drop(course);
     }
-    drop(wanted);
-    drop(course);
 }
 
 #[test]
-fn scripts_go_so(rt: HostRuntime) {
-    hold(&rt, Cases::Scripts, SCRIPTS);
-    hold(&rt, Cases::Synchronizations, GROUPS);
+fn scripts_synchronize_on_groups(rt: HostRuntime) {
+    for (script, groups) in &GROUPS {
+        let course = course_of(&rt, script);
+        let wanted = make(&rt, groups);
+        assert!(rt; course.groups.len() == wanted.groups.len(), "{script}");
+        for i in 0..course.groups.len() {
+            assert!(rt; course.groups[i].same(&wanted.groups[i]), "{script}");
+        }
+        drop(wanted);
+        drop(course);
+    }
 }

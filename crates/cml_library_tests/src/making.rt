@@ -66,16 +66,6 @@ pub fn program_of(rt: &(impl Abort + AllocGlobal), script: &str) -> Prog {
     program
 }
 
-/// The script that the word names, or that is spelled.
-pub fn script_of(text: &str) -> &str {
-    match text {
-        "ADDITION" => ADDITION,
-        "CANCELLED" => CANCELLED,
-        "SWAPPED" => SWAPPED,
-        _ => text,
-    }
-}
-
 /// The value that the text makes.
 pub fn value(rt: &(impl Abort + AllocGlobal), text: &str) -> Value {
     let mut made = make(rt, text);
@@ -209,8 +199,7 @@ impl Made {
             "never" => self.push(rt, EventKind::Never, GroupKind::Never),
             "it" => {
                 self.copy_values(rt, &it.values);
-                self.copy_events(rt, &it.events);
-                self.copy_groups(rt, &it.groups);
+                self.copy_events(rt, it);
             }
             _ => rt.panic(name),
         }
@@ -223,17 +212,11 @@ impl Made {
         }
     }
 
-    fn copy_events(&mut self, rt: &impl Abort, events: &[Event]) {
-        for event in events {
-            let copy = event.copy().expect(rt, MEMORY);
-            self.push_event(rt, copy);
-        }
-    }
-
-    fn copy_groups(&mut self, rt: &impl Abort, groups: &[Group]) {
-        for group in groups {
-            let copy = group.copy().expect(rt, MEMORY);
-            self.push_group(rt, copy);
+    fn copy_events(&mut self, rt: &impl Abort, it: &Made) {
+        for (event, group) in it.events.iter().zip(it.groups.iter()) {
+            let event = event.copy().expect(rt, MEMORY);
+            let group = group.copy().expect(rt, MEMORY);
+            self.push_both(rt, event, group);
         }
     }
 
@@ -271,17 +254,13 @@ impl Made {
         self.push_value(rt, Value::new(kind));
     }
 
-    fn push_event(&mut self, rt: &impl Abort, event: Event) {
+    fn push_both(&mut self, rt: &impl Abort, event: Event, group: Group) {
         self.events.push(event).expect(rt, MEMORY);
-    }
-
-    fn push_group(&mut self, rt: &impl Abort, group: Group) {
         self.groups.push(group).expect(rt, MEMORY);
     }
 
     fn push(&mut self, rt: &impl Abort, event: EventKind, group: GroupKind) {
-        self.push_event(rt, Event::new(event));
-        self.push_group(rt, Group::new(group));
+        self.push_both(rt, Event::new(event), Group::new(group));
     }
 
     /// The last value.
@@ -300,12 +279,11 @@ impl Made {
     }
 
     fn number(&mut self, rt: &impl Abort) -> u32 {
-        let value = self.value(rt);
-        let z = match value.kind() {
-            ValueKind::Int(z) => *z,
-            _ => rt.panic("a number"),
+        let z = match self.value(rt).into_kind() {
+            ValueKind::Int(z) => Some(z),
+            _ => None,
         };
-        drop(value);
+        let z = z.expect(rt, "a number");
         u32::try_from(z).expect(rt, "a number of 32 bits")
     }
 
@@ -334,35 +312,28 @@ impl Made {
 
     // The choice of the events from this place on.
     fn choose(&mut self, rt: &impl Abort, first: usize) {
-        assert!(rt; first <= self.events.len());
+        assert!(rt; first <= self.events.len(), "events");
         let events = self.events.split_off(first).expect(rt, MEMORY);
         let event = Event::choose(self.alloc, events).expect(rt, MEMORY);
-        self.push_event(rt, event);
-        self.choose_groups(rt, first);
-    }
-
-    fn choose_groups(&mut self, rt: &impl Abort, first: usize) {
-        assert!(rt; first <= self.groups.len());
+        assert!(rt; first <= self.groups.len(), "groups");
         let groups = self.groups.split_off(first).expect(rt, MEMORY);
         let group = Group::choose(self.alloc, groups).expect(rt, MEMORY);
-        self.push_group(rt, group);
+        self.push_both(rt, event, group);
     }
 
     /// The last event under the function.
     pub fn wrap(&mut self, rt: &impl Abort, function: FnRef) {
         let copy = function.copy().expect(rt, MEMORY);
         let event = self.event(rt).wrap(self.alloc, copy).expect(rt, MEMORY);
-        self.push_event(rt, event);
         let group = self.group(rt).wrap(self.alloc, function).expect(rt, MEMORY);
-        self.push_group(rt, group);
+        self.push_both(rt, event, group);
     }
 
     fn scope(&mut self, rt: &impl Abort) {
         let nack = NackId(self.number(rt));
         let event = self.event(rt).scope(self.alloc, nack).expect(rt, MEMORY);
-        self.push_event(rt, event);
         let group = self.group(rt).scope(self.alloc, nack).expect(rt, MEMORY);
-        self.push_group(rt, group);
+        self.push_both(rt, event, group);
     }
 
     // A base event, a thread or an object.

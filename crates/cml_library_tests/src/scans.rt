@@ -1,63 +1,90 @@
 //! The rows, lights, leaves and offers of worlds.
 
-use crate::cases::{Cases, hold};
-use crate::lines::{halves, number, say};
-use crate::making::{MEMORY, group};
+use crate::making::{MEMORY, group, make};
 use cml_scan::{
     Light, Lights, Meet, NackState, Offer, Place, ThreadState, World, leaf_bases, light, offers,
     push_offers, rows, scan,
 };
-use cml_value::{IVarId, MVarId, MboxId, NackId, PortId, Tid, Value, ValueKind};
+use cml_value::{EventKind, IVarId, MVarId, MboxId, NackId, PortId, Tid, Value, ValueKind};
 use std::process::Abort;
 
-// What the threads of a world do, and its rows, each as `thread.leaf`, a pair with a dash.
-const WORLDS: &str = "
-(send 0 5) / (recv 0) => 0.0-1.0
-running / running =>
-(choose (send 0 1) (recv 0)) =>
-(choose (send 0 1) (recv 0)) / (choose (send 0 1) (recv 0)) => 0.0-1.1 1.0-0.1
-; two swaps on one swap channel, of two threads, the lower one first; a channel of the same number is another thing
-(swap 0 5) / (swap 0 6) => 0.0-1.0
-(swap 0 5) / (swap 1 6) =>
-(choose (swap 0 5) (swap 0 6)) =>
-(swap 0 5) / (recv 0) / (send 0 6) => 2.0-1.0
-(choose (swap 0 1) (swap 0 2)) / running / (swap 0 3) => 0.0-2.0 0.1-2.0
-(choose (swap 0 1) (swap 0 2)) / (swap 0 3) / (swap 0 4) => 0.0-1.0 0.0-2.0 0.1-1.0 0.1-2.0 1.0-2.0
-ended / (join 0) / (join 1) => 1.0
-(choose (always 0) (recv 0)) / (send 0 2) => 0.0 1.0-0.1
-";
+const FRESH: NackState = NackState::Fresh(Tid(0));
 
-// The same of worlds with this value of M-variable 0 (or none: `-`), this nack 0 (fresh, fired or held), and at this time.
-const STATES: &str = "
-8 fresh 0 | (mtake 0) / (mtake 0) / (mget 0) => 0.0 1.0 2.0
-- fresh 0 | running / (mtake 0) / (mget 0) =>
-9 fresh 0 | running / (mtake 0) / (mget 0) => 1.0 2.0
-9 fresh 0 | running / (mtake 0) / running => 1.0
-- fresh 0 | running / (nack 0) / running =>
-- fired 0 | running / (nack 0) / (nack 0) => 1.0 2.0
-- held 0 | running / (nack 0) =>
-- fresh 14 | (at 15) / running =>
-- fresh 15 | (at 15) / running => 0.0
-- fresh 15 | (at 15) / (at 15) => 0.0 1.0
-";
+// What the threads of a world do, and its rows, each as `thread.leaf`, a pair with a dash.
+const WORLDS: [(&str, &str); 12] = [
+    ("(send 0 5) / (recv 0)", "0.0-1.0 "),
+    ("running / running", ""),
+    ("(choose (send 0 1) (recv 0))", ""),
+    (
+        "(choose (send 0 1) (recv 0)) / (choose (send 0 1) (recv 0))",
+        "0.0-1.1 1.0-0.1 ",
+    ),
+    // two swaps on one swap channel, of two threads, the lower one first; a channel of the same number is another thing
+    ("(swap 0 5) / (swap 0 6)", "0.0-1.0 "),
+    ("(swap 0 5) / (swap 1 6)", ""),
+    ("(choose (swap 0 5) (swap 0 6))", ""),
+    ("(swap 0 5) / (recv 0) / (send 0 6)", "2.0-1.0 "),
+    (
+        "(choose (swap 0 1) (swap 0 2)) / running / (swap 0 3)",
+        "0.0-2.0 0.1-2.0 ",
+    ),
+    (
+        "(choose (swap 0 1) (swap 0 2)) / (swap 0 3) / (swap 0 4)",
+        "0.0-1.0 0.0-2.0 0.1-1.0 0.1-2.0 1.0-2.0 ",
+    ),
+    ("ended / (join 0) / (join 1)", "1.0 "),
+    ("(choose (always 0) (recv 0)) / (send 0 2)", "0.0 1.0-0.1 "),
+];
+
+// The same of worlds with this value of M-variable 0, this nack 0, and at this time.
+const STATES: [(&str, Option<i64>, NackState, u64, &str); 10] = [
+    (
+        "(mtake 0) / (mtake 0) / (mget 0)",
+        Some(8),
+        FRESH,
+        0,
+        "0.0 1.0 2.0 ",
+    ),
+    ("running / (mtake 0) / (mget 0)", None, FRESH, 0, ""),
+    (
+        "running / (mtake 0) / (mget 0)",
+        Some(9),
+        FRESH,
+        0,
+        "1.0 2.0 ",
+    ),
+    ("running / (mtake 0) / running", Some(9), FRESH, 0, "1.0 "),
+    ("running / (nack 0) / running", None, FRESH, 0, ""),
+    (
+        "running / (nack 0) / (nack 0)",
+        None,
+        NackState::Fired,
+        0,
+        "1.0 2.0 ",
+    ),
+    ("running / (nack 0)", None, NackState::Held, 0, ""),
+    ("(at 15) / running", None, FRESH, 14, ""),
+    ("(at 15) / running", None, FRESH, 15, "0.0 "),
+    ("(at 15) / (at 15)", None, FRESH, 15, "0.0 1.0 "),
+];
 
 // Base events with their lights.
-const LIGHTS: &str = "
-(always 1) => none
-(send 1 1) => none
-(recv 2) => none
-(swap 2 1) => none
-(after 11) => none
-(iget 3) => ivar 3
-(mtake 4) => mvar 4
-(mget 5) => mvar 5
-(mswap 6 1) => mvar 6
-(mailrecv 7) => mailbox 7
-(portrecv 8) => port 8
-(join 9) => join 9
-(at 10) => tick 10
-(nack 12) => nack 12
-";
+const LIGHTS: [(&str, Option<Light>); 14] = [
+    ("(always 1)", None),
+    ("(send 1 1)", None),
+    ("(recv 2)", None),
+    ("(swap 2 1)", None),
+    ("(after 11)", None),
+    ("(iget 3)", Some(Light::IVar(IVarId(3)))),
+    ("(mtake 4)", Some(Light::MVar(MVarId(4)))),
+    ("(mget 5)", Some(Light::MVar(MVarId(5)))),
+    ("(mswap 6 1)", Some(Light::MVar(MVarId(6)))),
+    ("(mailrecv 7)", Some(Light::Mbox(MboxId(7)))),
+    ("(portrecv 8)", Some(Light::Port(PortId(8)))),
+    ("(join 9)", Some(Light::Joined(Tid(9)))),
+    ("(at 10)", Some(Light::Alarm(10))),
+    ("(nack 12)", Some(Light::Nack(NackId(12)))),
+];
 
 fn thread(rt: &(impl Abort + AllocGlobal), text: &str) -> ThreadState {
     match text {
@@ -94,95 +121,57 @@ fn push_row(rt: &impl Abort, text: &mut String, row: &Meet) {
     {
         write!(text, "-{}.{other_leaf}", other.0).expect(rt, MEMORY);
     }
-    say(rt, text, " ");
+    text.push_str(" ").expect(rt, MEMORY);
 }
 
-fn rows_are(rt: &(impl Abort + AllocGlobal), found: &[Meet], wanted: &str) {
+fn rows_are(rt: &(impl Abort + AllocGlobal), found: &[Meet], expected: &str) {
     let mut text = String::new(rt.alloc());
     for row in found {
         push_row(rt, &mut text, row);
     }
-    assert!(rt; text.trim_end() == wanted);
+    assert!(rt; text.as_str() == expected);
     drop(text);
 }
 
-fn nack_of(word: &str) -> NackState {
-    match word {
-        "fired" => NackState::Fired,
-        "held" => NackState::Held,
-        _ => NackState::Fresh(Tid(0)),
-    }
-}
-
-// Gives the world this value of M-variable 0, this nack 0 and this time.
-fn set(rt: &impl Abort, world: &mut World, words: &str) {
-    let (held, words) = halves(rt, words, " ");
-    let (nack, tick) = halves(rt, words, " ");
-    let value = match held {
-        "-" => None,
-        _ => Some(int(i64::from(number(rt, held)))),
-    };
-    world.mvars.push(value).expect(rt, MEMORY);
-    world.nacks.push(nack_of(nack)).expect(rt, MEMORY);
-    world.tick = u64::from(number(rt, tick));
-}
-
-fn has_rows(rt: &(impl Abort + AllocGlobal), state: &str, threads: &str, wanted: &str) {
+fn has_rows(
+    rt: &(impl Abort + AllocGlobal),
+    threads: &str,
+    mvar: Option<i64>,
+    nack: NackState,
+    tick: u64,
+    expected: &str,
+) {
     let mut world = world(rt, threads);
-    set(rt, &mut world, state);
+    world.mvars.push(mvar.map(int)).expect(rt, MEMORY);
+    world.nacks.push(nack).expect(rt, MEMORY);
+    world.tick = tick;
     let found = scan(rt.alloc(), &world).expect(rt, MEMORY);
     drop(world);
-    rows_are(rt, &found, wanted);
+    rows_are(rt, &found, expected);
     drop(found);
 }
 
-/// The threads of the world have these rows.
-pub fn world_has_rows(rt: &(impl Abort + AllocGlobal), threads: &str, wanted: &str) {
-    has_rows(rt, "- fresh 0", threads, wanted);
-}
-
-/// The threads of the world in this state have these rows.
-pub fn state_has_rows(rt: &(impl Abort + AllocGlobal), given: &str, wanted: &str) {
-    let (state, threads) = halves(rt, given, " | ");
-    has_rows(rt, state, threads, wanted);
-}
-
-/// The light that the words name.
-pub fn light_of(rt: &impl Abort, words: &str) -> Light {
-    let (kind, n) = halves(rt, words, " ");
-    let n = number(rt, n);
-    match kind {
-        "ivar" => Light::IVar(IVarId(n)),
-        "mvar" => Light::MVar(MVarId(n)),
-        "mailbox" => Light::Mbox(MboxId(n)),
-        "port" => Light::Port(PortId(n)),
-        "nack" => Light::Nack(NackId(n)),
-        "tick" => Light::Alarm(u64::from(n)),
-        "join" => Light::Joined(Tid(n)),
-        _ => rt.panic(words),
+#[test]
+fn rows_of_worlds(rt: HostRuntime) {
+    for &(threads, expected) in &WORLDS {
+        has_rows(&rt, threads, None, FRESH, 0, expected);
     }
-}
-
-/// The one base event of the group has this light, or none.
-pub fn has_light(rt: &(impl Abort + AllocGlobal), text: &str, wanted: &str) {
-    let group = group(rt, text);
-    let bases = leaf_bases(rt.alloc(), &group).expect(rt, MEMORY);
-    drop(group);
-    let wanted = match wanted {
-        "none" => None,
-        _ => Some(light_of(rt, wanted)),
-    };
-    for base in &bases {
-        assert!(rt; light(base) == wanted, "{text}");
+    for &(threads, mvar, nack, tick, expected) in &STATES {
+        has_rows(&rt, threads, mvar, nack, tick, expected);
     }
-    drop(bases);
 }
 
 #[test]
-fn rows_and_lights(rt: HostRuntime) {
-    hold(&rt, Cases::Worlds, WORLDS);
-    hold(&rt, Cases::States, STATES);
-    hold(&rt, Cases::Lights, LIGHTS);
+fn lights_of_bases(rt: HostRuntime) {
+    for &(text, expected) in &LIGHTS {
+        let group = group(&rt, text);
+        let bases = leaf_bases(rt.alloc(), &group).expect(&rt, MEMORY);
+        drop(group);
+        for base in &bases {
+            assert!(rt; light(base) == expected, "{text}");
+        }
+        drop(bases);
+    }
 }
 
 fn items(rt: &(impl Abort + AllocGlobal)) -> Vec<Vec<Value>> {
@@ -262,7 +251,7 @@ fn rows_of_offers(rt: HostRuntime) {
     let found = rows(rt.alloc(), &all, &world).expect(&rt, MEMORY);
     drop(all);
     drop(world);
-    rows_are(&rt, &found, "4.0 0.0-4.1");
+    rows_are(&rt, &found, "4.0 0.0-4.1 ");
     drop(found);
 }
 
@@ -291,23 +280,4 @@ fn places_of_rows(rt: HostRuntime) {
     assert!(rt; place.same(&single.place()) && place.same(&pair.place()));
     assert!(rt; !place.same(&turned.place()));
     assert!(rt; pair.same(&pair) && !pair.same(&turned) && !pair.same(&single));
-}
-
-#[test]
-fn a_row_is_written(rt: HostRuntime) {
-    let mut text = String::new(rt.alloc());
-    let first = Meet::Single {
-        tid: Tid(0),
-        leaf: 0,
-    };
-    assert!(rt; first.push_numbers(&mut text).is_ok());
-    let pair = Meet::Pair {
-        head: Tid(1),
-        head_leaf: 2,
-        other: Tid(3),
-        other_leaf: 4,
-    };
-    assert!(rt; pair.push_numbers(&mut text).is_ok());
-    assert!(rt; text.as_str() == " 0 0 1 2 3 4");
-    drop(text);
 }

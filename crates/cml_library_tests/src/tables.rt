@@ -4,14 +4,13 @@ ghost use Rattle.std.specs.Prelude.{◌≡◌, [], true};
 ghost use Rattle.cml_index.specs.Posts.{told};
 
 use crate::drawing::{Seen, draw, making};
-use crate::making::{MEMORY, many};
-use crate::traces::{answered, rows_of};
-use cml_book::Book;
+use crate::making::MEMORY;
+use cml_book::{Book, Command, Committed, Reply, Resume};
 use cml_channel::Tally;
 use cml_index::OfferIndex;
 use cml_kept::KeptRows;
 use cml_scan::{Light, Meet, Place, Table};
-use cml_value::{ChanId, Group, SwapId, Tid};
+use cml_value::{Base, BaseKind, ChanId, Group, GroupKind, SwapId, Tid, Value, ValueKind};
 use rand_core::SeedableRng;
 use rand_pcg::Pcg32;
 use std::alloc::{AllocError, Global};
@@ -27,6 +26,85 @@ struct Books {
     swapped: u32,
 }
 
+// The rows that the table lists, head by head.
+fn rows_by_heads<T: Table>(rt: &(impl Abort + AllocGlobal), table: &T) -> Vec<Meet> {
+    let mut rows = Vec::new(rt.alloc());
+    for k in 0..table.head_count() {
+        push_partners(rt, table, table.head(k), &mut rows);
+    }
+    rows
+}
+
+fn push_partners<T: Table>(rt: &impl Abort, table: &T, head: Place, rows: &mut Vec<Meet>) {
+    for j in 0..table.partner_count(head) {
+        rows.push(table.partner(head, j)).expect(rt, MEMORY);
+    }
+}
+
+// The table has each of the rows, and finds them head by head.
+fn shows_rows<T: Table>(rt: &(impl Abort + AllocGlobal), table: &T, rows: &[Meet]) {
+    let listed = table.rows(rt.alloc()).expect(rt, MEMORY);
+    let found = rows_by_heads(rt, table);
+    assert!(rt; listed.as_slice() == rows);
+    assert!(rt; found.as_slice() == rows);
+    assert!(rt; rows.iter().all(|row| table.has(row)));
+    drop(listed);
+    drop(found);
+}
+
+fn same_resume(one: &Resume, other: &Resume) -> bool {
+    one.tid == other.tid
+        && one.value.same(&other.value)
+        && one.fired == other.fired
+        && one.wraps.len() == other.wraps.len()
+        && one
+            .wraps
+            .iter()
+            .zip(other.wraps.iter())
+            .all(|(f, g)| f.same(g))
+}
+
+fn same_committed(one: &Committed, other: &Committed) -> bool {
+    let partners = match (&one.partner, &other.partner) {
+        (Some(x), Some(y)) => same_resume(x, y),
+        (None, None) => true,
+        _ => false,
+    };
+    partners && same_resume(&one.head, &other.head)
+}
+
+fn same_reply(one: &Reply, other: &Reply) -> bool {
+    match (one, other) {
+        (Reply::Thread(x), Reply::Thread(y)) => x == y,
+        (Reply::Chan(x), Reply::Chan(y)) => x == y,
+        (Reply::Swap(x), Reply::Swap(y)) => x == y,
+        (Reply::IVar(x), Reply::IVar(y)) => x == y,
+        (Reply::MVar(x), Reply::MVar(y)) => x == y,
+        (Reply::Mailbox(x), Reply::Mailbox(y)) => x == y,
+        (Reply::Mchan(x), Reply::Mchan(y)) => x == y,
+        (Reply::Port(x), Reply::Port(y)) => x == y,
+        (Reply::Nack(x), Reply::Nack(y)) => x == y,
+        (Reply::Done, Reply::Done) => true,
+        (Reply::Committed(x), Reply::Committed(y)) => same_committed(x, y),
+        (Reply::Refused(x), Reply::Refused(y)) => x == y,
+        _ => false,
+    }
+}
+
+// What the book replies to the one command.
+fn reply_of<T: Table>(
+    rt: &(impl Abort + AllocGlobal),
+    book: &mut Book<T>,
+    command: Command,
+) -> Reply {
+    let mut commands = Vec::new(rt.alloc());
+    commands.push(command).expect(rt, MEMORY);
+    let mut replies = book.run(rt.alloc(), commands).ok().expect(rt, MEMORY);
+    let reply = replies.pop().expect(rt, "a reply");
+    drop(replies);
+    reply
+}
+
 impl Books {
     fn new(rt: &(impl Abort + AllocGlobal)) -> Books {
         Books {
@@ -37,61 +115,51 @@ impl Books {
         }
     }
 
-    // Both answer the command in the same way.
-    fn answer(&mut self, rt: &(impl Abort + AllocGlobal), command: &str) {
-        let line = format!(in rt.alloc(); "{command}\n").expect(rt, MEMORY);
-        let one = answered(rt, &mut self.plain, line.as_str());
-        let other = answered(rt, &mut self.index, line.as_str());
-        assert!(rt; one.as_str() == other.as_str(), "{command}");
-        if one.starts_with("resume") {
-            self.committed = self.committed.saturating_add(1);
-        }
-        drop(one);
-        drop(other);
-        drop(line);
-    }
-
     // Both make three things of each kind and more threads.
     fn begin(&mut self, rt: &(impl Abort + AllocGlobal)) {
         for kind in 0..27 {
-            self.answer(rt, making(rt, kind));
+            let one = reply_of(rt, &mut self.plain, making(kind));
+            let other = reply_of(rt, &mut self.index, making(kind));
+            assert!(rt; same_reply(&one, &other));
+            drop(one);
+            drop(other);
         }
     }
 
-    // Both books say the same of whether the row is of two swaps.
-    fn count_swap(&mut self, rt: &impl Abort, row: &Meet) {
-        let swaps = self.plain.swaps(row);
-        assert!(rt; self.index.swaps(row) == swaps);
-        if swaps {
-            self.swapped = self.swapped.saturating_add(1);
+    // Both books say the same of whether the command commits a swap.
+    fn count_swap(&mut self, rt: &impl Abort, command: &Command) {
+        if let Command::Commit(row) = command {
+            let swaps = self.plain.swaps(row);
+            assert!(rt; self.index.swaps(row) == swaps);
+            if swaps {
+                self.swapped = self.swapped.saturating_add(1);
+            }
         }
     }
 
-    // The rows, which are the same in both.
-    fn rows(&self, rt: &(impl Abort + AllocGlobal)) -> Vec<Meet> {
-        let rows = self.plain.table().rows(rt.alloc()).expect(rt, MEMORY);
-        let found = rows_of(rt, self.index.table());
-        assert!(rt; found.as_slice() == rows.as_slice(), "the same rows");
-        drop(found);
-        rows
-    }
-
-    // Both do the next command that is drawn.
+    // Both do the next command that is drawn, reply the same and have the same rows after it.
     fn step(&mut self, rt: &(impl Abort + AllocGlobal), random: &mut Pcg32) {
-        let rows = self.rows(rt);
+        let rows = self.plain.table().rows(rt.alloc()).expect(rt, MEMORY);
+        shows_rows(rt, self.index.table(), rows.as_slice());
         let seen = Seen {
             now: self.plain.now(),
             threads: self.plain.next_thread().0,
             nacks: self.plain.next_nack().0,
         };
-        let mut command = String::new(rt.alloc());
-        let taken = draw(rt, random, &seen, rows.as_slice(), &mut command);
-        drop(rows);
-        if let Some(row) = taken {
-            self.count_swap(rt, &row);
+        let mut again = random.clone().expect(rt, MEMORY);
+        let first = draw(rt, random, &seen, rows.as_slice());
+        let second = draw(rt, &mut again, &seen, rows.as_slice());
+        self.count_swap(rt, &first);
+        let one = reply_of(rt, &mut self.plain, first);
+        let other = reply_of(rt, &mut self.index, second);
+        assert!(rt; same_reply(&one, &other));
+        if let Reply::Committed(_) = one {
+            self.committed = self.committed.saturating_add(1);
         }
-        self.answer(rt, command.as_str());
-        drop(command);
+        drop(rows);
+        drop(again);
+        drop(one);
+        drop(other);
     }
 }
 
@@ -109,13 +177,17 @@ fn random_commands(rt: HostRuntime) {
     drop(books);
 }
 
-// A choice of this many leaves that wait as the text says.
-fn offers(rt: &(impl Abort + AllocGlobal), count: u32, text: &str) -> Group {
-    let mut made = many(rt, count, text);
-    made.around(rt, "(choose it)");
-    let group = made.group(rt);
-    drop(made);
-    group
+// A group of this many leaves that wait in this one way.
+fn offers(rt: &(impl Abort + AllocGlobal), count: u32, kind: BaseKind) -> Group {
+    let base = Base::new(kind);
+    let mut members = Vec::new(rt.alloc());
+    for _ in 0..count {
+        let copy = base.copy().expect(rt, MEMORY);
+        let leaf = Group::new(GroupKind::Leaf(copy));
+        members.push(leaf).expect(rt, MEMORY);
+    }
+    drop(base);
+    Group::choose(rt.alloc(), members).expect(rt, MEMORY)
 }
 
 // This many threads come that wait on the group.
@@ -129,8 +201,9 @@ fn come<T: Table>(rt: &(impl Abort + AllocGlobal), book: &mut Book<T>, count: u3
 // This many threads offer this many sends each, and then as many threads offer that many receives each, all on one channel.
 fn crowd<T: Table>(rt: &(impl Abort + AllocGlobal), book: &mut Book<T>, threads: u32, leaves: u32) {
     assert!(rt; book.make_chan() == Ok(ChanId(0)));
-    let sends = offers(rt, leaves, "(send 0 ())");
-    let receives = offers(rt, leaves, "(recv 0)");
+    let unit = Value::new(ValueKind::Unit);
+    let sends = offers(rt, leaves, BaseKind::Send(ChanId(0), unit));
+    let receives = offers(rt, leaves, BaseKind::Recv(ChanId(0)));
     come(rt, book, threads, &sends);
     come(rt, book, threads, &receives);
     drop(sends);
@@ -227,7 +300,8 @@ fn swap_crowd(rt: &(impl Abort + AllocGlobal)) -> Book<Counted> {
     };
     let mut book = Book::new(rt.alloc(), table);
     assert!(rt; book.make_swap() == Ok(SwapId(0)));
-    let swaps = offers(rt, 256, "(swap 0 ())");
+    let unit = Value::new(ValueKind::Unit);
+    let swaps = offers(rt, 256, BaseKind::Swap(SwapId(0), unit));
     come(rt, &mut book, 4_000, &swaps);
     drop(swaps);
     book

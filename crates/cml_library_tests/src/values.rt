@@ -1,7 +1,5 @@
 //! What values, events and groups are shown as, how large they are, and which are the same.
 
-use crate::cases::{Cases, hold};
-use crate::lines::{halves, is_so, number, unfolded};
 use crate::making::{MEMORY, Made, make, value};
 use cml_value::{
     Base, BaseKind, Event, EventKind, FnRef, Group, GroupKind, MAX_DEPTH, MAX_NODES, MVarId,
@@ -9,58 +7,71 @@ use cml_value::{
 };
 use std::process::Abort;
 
-// A value, with its depth and its nodes, counted by hand, and what it is shown as.
-const VALUES: &str = r#"
-() => 1 1 ()
-0 => 1 1 0
--1 => 1 1 -1
-9223372036854775807 => 1 1 9223372036854775807
--9223372036854775808 => 1 1 -9223372036854775808
-true => 1 1 true
-false => 1 1 false
-(thread 0) => 1 1 (thread 0)
-(chan 1) => 1 1 (chan 1)
-(swapchan 4294967295) => 1 1 (swapchan 4294967295)
-(ivar 22) => 1 1 (ivar 22)
-(mvar 333) => 1 1 (mvar 333)
-(mailbox 65535) => 1 1 (mailbox 65535)
-(mchan 10) => 1 1 (mchan 10)
-(port 4294967295) => 1 1 (port 4294967295)
-"of many characters" => 1 1 "of many characters"
-(pair 1 2) => 2 3 (pair 1 2)
-(pair () (pair 1 2)) => 3 5 (pair () (pair 1 2))
-(pair (pair () (pair 1 2)) ()) => 4 7 (pair (pair () (pair 1 2)) ())
-(pair (pair 1 2) (pair 1 2)) => 3 7 (pair (pair 1 2) (pair 1 2))
-(pair -5 (pair "a\"b" ())) => 3 5 (pair -5 (pair "a\"b" ()))
-; values that hold events
-(pair (pair 1 2) (event never)) => 3 5 (pair (pair 1 2) event)
-(event never) => 1 1 event
-(pair 1 (event (send 0 (pair 1 2)))) => 4 6 (pair 1 event)
-(event (guard 0)) => 1 1 event
-(event (guard 1 5 (pair 1 2))) => 3 5 event
-(event (withnack 0)) => 1 1 event
-(event (withnack 1 5 (pair 1 2))) => 3 5 event
-(event (guard 2 (event (scope 0 never)))) => 3 3 event
-"#;
+// A value, spelled as it is shown, with its depth and its nodes, counted by hand.
+const VALUES: [(&str, u64, u64); 21] = [
+    ("()", 1, 1),
+    ("0", 1, 1),
+    ("-1", 1, 1),
+    ("9223372036854775807", 1, 1),
+    ("-9223372036854775808", 1, 1),
+    ("true", 1, 1),
+    ("false", 1, 1),
+    ("(thread 0)", 1, 1),
+    ("(chan 1)", 1, 1),
+    ("(swapchan 4294967295)", 1, 1),
+    ("(ivar 22)", 1, 1),
+    ("(mvar 333)", 1, 1),
+    ("(mailbox 65535)", 1, 1),
+    ("(mchan 10)", 1, 1),
+    ("(port 4294967295)", 1, 1),
+    ("\"of many characters\"", 1, 1),
+    ("(pair 1 2)", 2, 3),
+    ("(pair () (pair 1 2))", 3, 5),
+    ("(pair (pair () (pair 1 2)) ())", 4, 7),
+    ("(pair (pair 1 2) (pair 1 2))", 3, 7),
+    (r#"(pair -5 (pair "a\"b" ()))"#, 3, 5),
+];
+
+// The same of values that hold events, and what they are shown as.
+const HOLDING: [(&str, u64, u64, &str); 8] = [
+    (
+        "(pair (pair 1 2) (event never))",
+        3,
+        5,
+        "(pair (pair 1 2) event)",
+    ),
+    ("(event never)", 1, 1, "event"),
+    (
+        "(pair 1 (event (send 0 (pair 1 2))))",
+        4,
+        6,
+        "(pair 1 event)",
+    ),
+    ("(event (guard 0))", 1, 1, "event"),
+    ("(event (guard 1 5 (pair 1 2)))", 3, 5, "event"),
+    ("(event (withnack 0))", 1, 1, "event"),
+    ("(event (withnack 1 5 (pair 1 2)))", 3, 5, "event"),
+    ("(event (guard 2 (event (scope 0 never))))", 3, 3, "event"),
+];
 
 // An event that is a group too, with its depth and its nodes.
-const EVENTS: &str = "
-never => 1 1
-(recv 0) => 1 1
-(at 4294967295) => 1 1
-(nack 7) => 1 1
-(always ()) => 2 2
-(always (pair 1 2)) => 3 4
-(send 0 (pair 1 2)) => 3 4
-(swap 0 (pair 1 2)) => 3 4
-(mswap 0 (pair 1 2)) => 3 4
-(choose) => 1 1
-(choose never (send 0 1)) => 3 4
-(wrap never 0) => 2 2
-(wrap never 1 5 (pair 1 2)) => 3 6
-(wrap (always 1) 0) => 3 3
-(wrap (scope 3 (choose never (send 0 1))) 0) => 5 6
-";
+const EVENTS: [(&str, u64, u64); 15] = [
+    ("never", 1, 1),
+    ("(recv 0)", 1, 1),
+    ("(at 4294967295)", 1, 1),
+    ("(nack 7)", 1, 1),
+    ("(always ())", 2, 2),
+    ("(always (pair 1 2))", 3, 4),
+    ("(send 0 (pair 1 2))", 3, 4),
+    ("(swap 0 (pair 1 2))", 3, 4),
+    ("(mswap 0 (pair 1 2))", 3, 4),
+    ("(choose)", 1, 1),
+    ("(choose never (send 0 1))", 3, 4),
+    ("(wrap never 0)", 2, 2),
+    ("(wrap never 1 5 (pair 1 2))", 3, 6),
+    ("(wrap (always 1) 0)", 3, 3),
+    ("(wrap (scope 3 (choose never (send 0 1))) 0)", 5, 6),
+];
 
 // 67 values of which no two are the same.
 const APART: &str = r#"
@@ -87,63 +98,68 @@ const GROUPS_APART: &str =
     "never (recv 0) (recv 1) (choose) (choose never (recv 0)) (choose (recv 0) never)
     (wrap (recv 0) 0 1) (wrap (recv 0) 0 2) (scope 0 (recv 0)) (scope 1 (recv 0))";
 
-// Texts with their literals. Here `/` is a line feed.
-const LITERALS: &str = r#"
- => ""
-plain => "plain"
-" => "\""
-\ => "\\"
-/ => "\n"
-\n => "\\n"
-say "hi\"/ => "say \"hi\\\"\n"
-"#;
+// Texts with their literals.
+const LITERALS: [(&str, &str); 10] = [
+    ("", r#""""#),
+    ("plain", r#""plain""#),
+    ("\"", r#""\"""#),
+    ("\\", r#""\\""#),
+    ("\n", r#""\n""#),
+    ("\\n", r#""\\n""#),
+    ("say \"hi\\\"\n", r#""say \"hi\\\"\n""#),
+    ("\t;()", "\"\t;()\""),
+    ("\r", "\"\r\""),
+    ("é€😀\u{feff}", "\"é€😀\u{feff}\""),
+];
 
-// The same of texts with characters that are not seen.
-const UNSEEN: &str = "\
-    \t;() => \"\t;()\"\n\
-    \r => \"\r\"\n\
-    é€😀\u{feff} => \"é€😀\u{feff}\"";
-
-/// The value that the text makes has just this depth and this many nodes, and is shown so.
-pub fn is_measured(rt: &(impl Abort + AllocGlobal), text: &str, wanted: &str) {
+// The value that the text makes has this depth and this many nodes, and is shown as this text.
+fn is_so(rt: &(impl Abort + AllocGlobal), text: &str, depth: u64, nodes: u64, shown: &str) {
     let value = value(rt, text);
-    let shown = value.show(rt.alloc()).expect(rt, MEMORY);
-    let mut told = String::new(rt.alloc());
-    write!(told, "{} {} {shown}", value.depth(), value.nodes()).expect(rt, MEMORY);
-    drop(shown);
+    assert!(rt; (value.depth(), value.nodes()) == (depth, nodes), "{text}");
+    shows(rt, &value, shown);
     drop(value);
-    is_so(rt, told, wanted, text);
 }
 
-/// The text is shown as this literal.
-pub fn is_literal(rt: &(impl Abort + AllocGlobal), text: &str, literal: &str) {
-    let characters = unfolded(rt, text);
-    let value = Value::text(rt.alloc(), characters.as_str()).expect(rt, MEMORY);
-    is_so(rt, value.show(rt.alloc()).expect(rt, MEMORY), literal, text);
-    drop(value);
-    drop(characters);
+#[test]
+fn values_by_hand(rt: HostRuntime) {
+    for &(text, depth, nodes) in &VALUES {
+        is_so(&rt, text, depth, nodes, text);
+    }
+    for &(text, depth, nodes, shown) in &HOLDING {
+        is_so(&rt, text, depth, nodes, shown);
+    }
 }
 
-// All events and groups are of this depth and have this many nodes, and so are the base events among them.
-fn have(rt: &impl Abort, made: &Made, depth: u64, nodes: u64) {
-    for event in &made.events {
-        assert!(rt; event.depth() == depth && event.nodes() == nodes);
-        if let EventKind::Leaf(base) = event.kind() {
-            assert!(rt; base.depth() == depth && base.nodes() == nodes);
+fn shows(rt: &(impl Abort + AllocGlobal), value: &Value, expected: &str) {
+    let text = value.show(rt.alloc()).expect(rt, MEMORY);
+    assert!(rt; text.as_str() == expected);
+    drop(text);
+}
+
+#[test]
+fn literals(rt: HostRuntime) {
+    for &(characters, literal) in &LITERALS {
+        let value = Value::text(rt.alloc(), characters).expect(&rt, MEMORY);
+        shows(&rt, &value, literal);
+        drop(value);
+    }
+}
+
+#[test]
+fn events_by_hand(rt: HostRuntime) {
+    for &(text, depth, nodes) in &EVENTS {
+        let made = make(&rt, text);
+        for event in &made.events {
+            assert!(rt; (event.depth(), event.nodes()) == (depth, nodes), "{text}");
+            if let EventKind::Leaf(base) = event.kind() {
+                assert!(rt; (base.depth(), base.nodes()) == (depth, nodes), "{text}");
+            }
         }
+        for group in &made.groups {
+            assert!(rt; (group.depth(), group.nodes()) == (depth, nodes), "{text}");
+        }
+        drop(made);
     }
-    for group in &made.groups {
-        assert!(rt; group.depth() == depth && group.nodes() == nodes);
-    }
-}
-
-/// The events and groups that the text makes are of this depth and have this many nodes.
-pub fn event_is_measured(rt: &(impl Abort + AllocGlobal), text: &str, wanted: &str) {
-    let (depth, nodes) = halves(rt, wanted, " ");
-    let depth = u64::from(number(rt, depth));
-    let made = make(rt, text);
-    have(rt, &made, depth, u64::from(number(rt, nodes)));
-    drop(made);
 }
 
 #[test]
@@ -270,15 +286,15 @@ fn an_event_of_a_million_nodes(rt: HostRuntime) {
 // What there is at first, what is made of it this many times, and what of that in the end: `it` is all that was made before. And whether the whole
 // is within the limits. Where each pair has one value twice, 60 of them are 2^61 - 1 nodes: a walk through all of those would not end
 // in our time.
-const LIMITS: &str = "
-() | (pair it ()) | 63 | it => within
-() | (pair it ()) | 64 | it => beyond
-never | (scope 0 it) | 63 | it => within
-never | (scope 0 it) | 64 | it => beyond
-() | (pair it it) | 60 | it => beyond
-() | (pair it it) | 60 | (always it) => beyond
-() | (pair it it) | 60 | (wrap never 0 it) => beyond
-";
+const LIMITS: [(&str, &str, u32, &str, bool); 7] = [
+    ("()", "(pair it ())", 63, "it", true),
+    ("()", "(pair it ())", 64, "it", false),
+    ("never", "(scope 0 it)", 63, "it", true),
+    ("never", "(scope 0 it)", 64, "it", false),
+    ("()", "(pair it it)", 60, "it", false),
+    ("()", "(pair it it)", 60, "(always it)", false),
+    ("()", "(pair it it)", 60, "(wrap never 0 it)", false),
+];
 
 fn fit(rt: &impl Abort, made: &Made, expected: bool) {
     for value in &made.values {
@@ -292,44 +308,36 @@ fn fit(rt: &impl Abort, made: &Made, expected: bool) {
     }
 }
 
-/// What is made in the end, of what was made before this many times, is within the limits or beyond.
-pub fn is_within(rt: &(impl Abort + AllocGlobal), steps: &str, wanted: &str) {
-    let (first, steps) = halves(rt, steps, " | ");
-    let (step, steps) = halves(rt, steps, " | ");
-    let (times, last) = halves(rt, steps, " | ");
-    let mut made = make(rt, first);
-    for _ in 0..number(rt, times) {
-        made.around(rt, step);
-    }
-    made.around(rt, last);
-    fit(rt, &made, wanted == "within");
-    drop(made);
-}
-
 #[test]
-fn values_by_hand(rt: HostRuntime) {
+fn limits(rt: HostRuntime) {
     assert!(rt; (MAX_DEPTH, MAX_NODES) == (64, 65_536));
-    hold(&rt, Cases::Values, VALUES);
-    hold(&rt, Cases::Events, EVENTS);
-    hold(&rt, Cases::Literals, LITERALS);
-    hold(&rt, Cases::Literals, UNSEEN);
-    hold(&rt, Cases::Limits, LIMITS);
+    for &(first, step, times, last, fits) in &LIMITS {
+        let mut made = make(&rt, first);
+        for _ in 0..times {
+            made.around(&rt, step);
+        }
+        made.around(&rt, last);
+        fit(&rt, &made, fits);
+        drop(made);
+    }
 }
 
-// What the text makes of a value of 65,535 nodes is within the limits, or is not.
-fn fits_of_many(rt: &(impl Abort + AllocGlobal), text: &str, expected: bool) {
-    let mut made = Made::new(rt.alloc());
-    made.values.push(tree(rt, 15, 0)).expect(rt, MEMORY);
-    made.around(rt, text);
-    fit(rt, &made, expected);
-    drop(made);
-}
+// What is made of a value of 65,535 nodes, and whether it is within the limits: an event and a group of 65,536 nodes are, and a value,
+// an event and a group of 65,537 each are not.
+const OF_MANY_NODES: [(&str, bool); 2] = [
+    ("it (always it)", true),
+    ("(pair it ()) (scope 0 (always it))", false),
+];
 
-// An event and a group of 65,536 nodes are within the limits, and a value, an event and a group of 65,537 each are not.
 #[test]
 fn limit_of_nodes(rt: HostRuntime) {
-    fits_of_many(&rt, "it (always it)", true);
-    fits_of_many(&rt, "(pair it ()) (scope 0 (always it))", false);
+    for &(text, fits) in &OF_MANY_NODES {
+        let mut made = Made::new(rt.alloc());
+        made.values.push(tree(&rt, 15, 0)).expect(&rt, MEMORY);
+        made.around(&rt, text);
+        fit(&rt, &made, fits);
+        drop(made);
+    }
 }
 
 #[test]
