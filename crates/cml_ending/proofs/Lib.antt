@@ -1,6 +1,5 @@
 pub mod OrLemmas
-pub mod AppendLemmas
-pub mod WordLemmas
+pub mod TurnLemmas
 pub mod RingLemmas
 pub mod StandingLemmas
 pub mod TakeLemmas
@@ -8,6 +7,7 @@ pub mod ReplayLemmas
 pub mod AgainLemmas
 pub mod WaitLemmas
 pub mod ThreadLemmas
-pub mod LineLemmas
 pub mod StuckLemmas
-pub mod EndLemmas
+pub mod SameLemmas
+pub mod RingLaws
+pub mod BlockedLaws

@@ -1,10 +1,10 @@
 pub mod Again
 pub mod Takes
 pub mod Waits
+pub mod Codes
 pub mod Rings
 pub mod Standings
-pub mod Lines
+pub mod Lefts
 pub mod Views
-pub mod Heads
 pub mod Ends
 pub mod Stuck

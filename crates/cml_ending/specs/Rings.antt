@@ -1,26 +1,35 @@
 -- Threads that wait for one another in a ring.
-use Rattle.std.specs.Prelude.{ℕ, zero, suc, ◌==◌, if◌then◌else◌, List, [], ◌∷◌, ◌++◌, map, length, codes, Option, Some, None, option_map, option_and_then, slice_index_or}
-use Rattle.std.specs.List.{flat_map}
+use Rattle.std.specs.Prelude.{◌≡◌, ◌≢◌, ◌⊎◌, ℕ, zero, suc, ◌==◌, if◌then◌else◌, List, [], ◌∷◌, ◌++◌, map, length, Option, Some, None, option_map, option_and_then, slice_get, slice_index_or, AllPairs}
 use Rattle.std.specs.Option.{option_or}
-use Rattle.std.specs.Fmt.{decimal}
-use Rattle.cml_value.specs.Value.{PlainBase}
+use Rattle.cml_value.specs.Value.{PlainBase, mtake, mget, mswap, join}
 use Rattle.cml_value.specs.Group.{bases}
-use Rattle.cml_scan.specs.World.{PlainThread}
+use Rattle.cml_scan.specs.World.{PlainThread, PlainWorld}
+use Rattle.cml_scan.specs.Light.{is_full, has_ended}
+use Rattle.cml_scan.specs.declared.meet.Meet.{Meet}
+use Rattle.cml_scan.specs.declared.meet.Meet.TheVariants.{Single, Pair}
 use Rattle.cml_book.specs.Threads.{flat_of}
-use Rattle.cml_ending.specs.Waits.{thread_behind}
 
--- the thread behind the base event, where it is the only one
-abbrev pub behind_only : (ℕ → Option ℕ) → List PlainBase → Option ℕ
-behind_only taker (b ∷ []) = thread_behind taker b
-behind_only taker bs = None
+-- For which thread a base event waits that can't be taken now: for the one that took last from its M-variable, which is empty, or for the one
+-- whose end it waits for, which has not ended.
+abbrev pub blocked_by : PlainWorld → (ℕ → Option ℕ) → PlainBase → Option ℕ
+blocked_by w taker (mtake m) = if is_full (slice_get w.mvars m) then None else taker m
+blocked_by w taker (mget m) = if is_full (slice_get w.mvars m) then None else taker m
+blocked_by w taker (mswap m v) = if is_full (slice_get w.mvars m) then None else taker m
+blocked_by w taker (join t) = if has_ended (slice_get w.threads t) then None else Some t
+blocked_by w taker b = None
 
--- For which thread a thread waits: the one that took last from the M-variable that its only event waits for, or the one whose end this waits for.
-abbrev pub next_thread : (ℕ → Option ℕ) → PlainThread → Option ℕ
-next_thread taker thread = option_and_then (λ g. behind_only taker (bases g)) (flat_of thread)
+-- that of the only base event
+abbrev pub blocked_only : PlainWorld → (ℕ → Option ℕ) → List PlainBase → Option ℕ
+blocked_only w taker (b ∷ []) = blocked_by w taker b
+blocked_only w taker bs = None
+
+-- for which thread a thread waits that waits for one event alone
+abbrev pub next_thread : PlainWorld → (ℕ → Option ℕ) → PlainThread → Option ℕ
+next_thread w taker thread = option_and_then (λ g. blocked_only w taker (bases g)) (flat_of thread)
 
 -- that of each thread
-abbrev pub next_threads : (ℕ → Option ℕ) → List PlainThread → List (Option ℕ)
-next_threads taker threads = map (next_thread taker) threads
+abbrev pub next_threads : PlainWorld → (ℕ → Option ℕ) → List PlainThread → List (Option ℕ)
+next_threads w taker threads = map (next_thread w taker) threads
 
 abbrev pub next_of : List (Option ℕ) → ℕ → Option ℕ
 next_of nexts t = slice_index_or nexts t None
@@ -45,14 +54,21 @@ first_ring nexts t (suc n) = option_or (ring_from nexts t) (first_ring nexts (su
 abbrev pub ring_among : List (Option ℕ) → Option (List ℕ)
 ring_among nexts = first_ring nexts 0 (length nexts)
 
--- a thread behind an arrow
-abbrev pub arrow_to : ℕ → List ℕ
-arrow_to t = codes " -> " ++ decimal t
+-- each of these threads waits for the one behind it
+abbrev pub EachWaits : List (Option ℕ) → List ℕ → Type 0
+EachWaits nexts [] = Unit {0}
+EachWaits nexts (t ∷ []) = Unit {0}
+EachWaits nexts (t ∷ u ∷ ts) = (next_of nexts t ≡ Some u) × EachWaits nexts (u ∷ ts)
 
-abbrev pub arrows : List ℕ → List ℕ
-arrows [] = []
-arrows (t ∷ ts) = decimal t ++ flat_map arrow_to ts
+-- a ring: it ends with the thread with which it begins, the threads on the way are told apart, and each waits for the one behind it
+pub record IsRing (nexts : List (Option ℕ)) (ring : List ℕ) : Type 0 where
+  pub first : ℕ
+  pub others : List ℕ
+  pub goes_round : ring ≡ first ∷ (others ++ first ∷ [])
+  pub once : AllPairs (λ t u. t ≢ u) (others ++ first ∷ [])
+  pub each_waits : EachWaits nexts ring
 
-abbrev pub ring_line : Option (List ℕ) → List ℕ
-ring_line None = []
-ring_line (Some ring) = codes "a ring: " ++ (arrows ring ++ 10 ∷ [])
+-- the thread is a party to the row
+abbrev pub IsParty : ℕ → Meet → Type 0
+IsParty t (Single tid leaf) = tid.0 ≡ t
+IsParty t (Pair head head_leaf other other_leaf) = (head.0 ≡ t) ⊎ (other.0 ≡ t)

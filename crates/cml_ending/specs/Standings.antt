@@ -9,6 +9,8 @@ use Rattle.cml_step.specs.Calls.{placed_in}
 use Rattle.cml_step.specs.Machines.{PlainHeld, call, PlainMachine}
 use Rattle.cml_step.specs.Standing.{StandsIn}
 use Rattle.cml_hub.specs.Courses.{PlainCourse}
+use Rattle.cml_phrase.specs.declared.place.Place.{Place}
+use Rattle.cml_phrase.specs.Spots.{statement_place}
 use Rattle.cml_ending.specs.declared.standing.Spot.{Spot}
 
 -- an entry, if it is a call
@@ -43,3 +45,7 @@ call_of_machine m = top_call m.stack
 -- these are the spots of all threads, by number: each is that of its machine's top call
 abbrev pub AreSpots : PlainCourse → List (Option Spot) → Type 0
 AreSpots c spots = (t : ℕ) → t < length c.world.threads → IsSpotOf c.program (option_and_then call_of_machine (slice_get c.machines t)) (spot_at spots t)
+
+-- where a spot is in the text: these are the places of the statements of each function
+abbrev pub spot_place : List (List Place) → Spot → Option Place
+spot_place places spot = option_and_then (statement_place places spot.function) spot.statement

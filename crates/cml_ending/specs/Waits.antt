@@ -1,15 +1,15 @@
 -- What a thread waits for, with the state of each object in the world.
-use Rattle.std.specs.Prelude.{ℕ, Bool, true, false, if◌then◌else◌, List, map, length, Option, Some, None, option_map, slice_get}
+use Rattle.std.specs.Prelude.{ℕ, Bool, true, false, if◌then◌else◌, List, map, length, take, Option, Some, None, option_map, slice_get}
 use Rattle.std.specs.List.{list_any}
-use Rattle.cml_text.specs.Forms.{PlainSexpr}
 use Rattle.cml_value.specs.Value.{PlainValue, PlainFunction, PlainBase, iget, mtake, mget, mswap, mail_recv, port_recv, join, nack}
 use Rattle.cml_value.specs.Group.{PlainGroup, bases, leaf_count}
 use Rattle.cml_scan.specs.World.{PlainThread, running, pending_on, ended, PlainNack, fresh_of, live, fired, held, PlainWorld}
 use Rattle.cml_scan.specs.Light.{is_full}
 use Rattle.cml_phrase.specs.declared.event.ObjectState.{ObjectState}
 use Rattle.cml_phrase.specs.declared.event.ObjectState.TheVariants as state
-use Rattle.cml_phrase.specs.Phrases.{PlainWho}
-use Rattle.cml_phrase.specs.Events.{PlainSaid, events_words}
+use Rattle.cml_phrase.specs.Events.{event_limit}
+use Rattle.cml_ending.specs.declared.awaited.Named.{Named}
+use Rattle.cml_ending.specs.declared.awaited.AwaitedEvent.{AwaitedEvent}
 
 abbrev pub variable_state : Option (Option PlainValue) → ObjectState
 variable_state held_so = if is_full held_so then state.Full else state.Empty
@@ -53,16 +53,28 @@ thread_behind taker (join t) = Some t
 thread_behind taker b = None
 
 -- a thread, with the function with which it began
-abbrev pub who_is : List PlainFunction → ℕ → PlainWho
+abbrev pub who_is : List PlainFunction → ℕ → Named
 who_is began t = record { thread = t; began = slice_get began t }
 
--- what is said of a base event
-abbrev pub base_told : PlainWorld → List PlainFunction → (ℕ → Option ℕ) → PlainBase → PlainSaid
-base_told w began taker b = record { base = b; state = object_state w b; who = option_map (who_is began) (thread_behind taker b) }
+-- the thread behind a base event, with the function with which it began
+abbrev pub named_behind : List PlainFunction → (ℕ → Option ℕ) → PlainBase → Option Named
+named_behind began taker b = option_map (who_is began) (thread_behind taker b)
 
--- what is said of a group: the base events of its leaves, from the left
-abbrev pub awaited_words : List PlainSexpr → PlainWorld → List PlainFunction → (ℕ → Option ℕ) → PlainGroup → List ℕ
-awaited_words forms w began taker g = events_words forms (map (base_told w began taker) (bases g)) (leaf_count g)
+-- a base event, the state of what it waits for, and the thread behind it
+abbrev pub awaited_event : PlainWorld → List PlainFunction → (ℕ → Option ℕ) → PlainBase → AwaitedEvent
+awaited_event w began taker b = record { base = b; state = object_state w b; behind = named_behind began taker b }
+
+-- what a thread waits for: the first of its base events, and how many it has
+pub record PlainAwaited : Type 0 where
+  pub events : List AwaitedEvent
+  pub count : ℕ
+
+-- that of a thread that waits on this group: the base events of its leaves, from the left
+abbrev pub awaited_of : PlainWorld → List PlainFunction → (ℕ → Option ℕ) → PlainGroup → PlainAwaited
+awaited_of w began taker g = record {
+  events = map (awaited_event w began taker) (take event_limit (bases g));
+  count = leaf_count g;
+}
 
 -- the base event is one of an M-variable
 abbrev pub is_on_mvar : PlainBase → Bool

@@ -1,9 +1,8 @@
 //! Threads that wait for one another in a ring.
 
-ghost use Rattle.std.specs.{Prelude.{◌≡◌, ◌++◌, IfOk, OnOk, option_map}, List.{flat_map}};
+ghost use Rattle.std.specs.Prelude.{◌≡◌, IfOk, option_map};
 ghost use Rattle.cml_ending.specs.Rings as spec;
 
-use crate::words::push_number;
 use std::alloc::{AllocError, Global};
 
 // The thread for which this one waits.
@@ -48,8 +47,14 @@ fn number(place: usize) -> Result<u32, AllocError>
     u32::try_from(place).map_err(|_| AllocError)
 }
 
-// The ring on which the least thread lies that lies on one.
-fn ring_among(alloc: Global, nexts: &[Option<u32>]) -> Result<Option<Vec<u32>>, AllocError>
+/// The ring on which the least thread lies that lies on one, where the threads wait for these; if there is one.
+///
+/// # Errors
+/// Out of memory.
+pub(crate) fn ring_among(
+    alloc: Global,
+    nexts: &[Option<u32>],
+) -> Result<Option<Vec<u32>>, AllocError>
     ensures { IfOk result (λ ring. option_map (λ r. r.items) ring ≡ spec.ring_among nexts.now) }
 {
     for i in 0..nexts.len() {
@@ -59,42 +64,4 @@ fn ring_among(alloc: Global, nexts: &[Option<u32>]) -> Result<Option<Vec<u32>>, 
         }
     }
     Ok(None)
-}
-
-/// Appends the line of the ring on which the least thread lies that lies on one, where the threads wait for these; or nothing.
-pub(crate) fn push_ring(
-    alloc: Global,
-    out: &mut Vec<u8>,
-    nexts: &[Option<u32>],
-) -> Result<(), AllocError>
-    ensures { OnOk result (out.new.items ≡ out.old.items ++ spec.ring_line (spec.ring_among nexts.now)) }
-{
-    if let Some(ring) = ring_among(alloc, nexts)? {
-        out.extend_from_slice(b"a ring: ")?;
-        push_arrows(alloc, out, ring.as_slice())?;
-        out.push(b'\n')?;
-    }
-    Ok(())
-}
-
-fn push_arrows(alloc: Global, out: &mut Vec<u8>, ring: &[u32]) -> Result<(), AllocError>
-    ensures { OnOk result (out.new.items ≡ out.old.items ++ spec.arrows ring.now) }
-{
-    match ring {
-        [] => Ok(()),
-        [first, rest @ ..] => {
-            push_number(alloc, out, u64::from(*first))?;
-            push_others(alloc, out, rest)
-        }
-    }
-}
-
-fn push_others(alloc: Global, out: &mut Vec<u8>, others: &[u32]) -> Result<(), AllocError>
-    ensures { OnOk result (out.new.items ≡ out.old.items ++ flat_map spec.arrow_to others.now) }
-{
-    for thread in others {
-        out.extend_from_slice(b" -> ")?;
-        push_number(alloc, out, u64::from(*thread))?;
-    }
-    Ok(())
 }

@@ -4,7 +4,7 @@ ghost use Rattle.std.specs.{Prelude.{◌≡◌, ◌<◌, ℕ, None, Some, IfOk, 
 ghost use Rattle.cml_check.specs.Syntax.{PlainItem};
 ghost use Rattle.cml_step.specs.{Machines.{plain_held}, Shared.{plain_seen}};
 ghost use Rattle.cml_step.specs.declared.entry.Entry.TheVariants as entry;
-ghost use Rattle.cml_ending.specs.{Lines.{spot_place}, Standings.{AreSpots, IsSpotOf}};
+ghost use Rattle.cml_ending.specs.Standings.{AreSpots, IsSpotOf, spot_place};
 ghost use Rattle.cml_ending.specs.Standings as spec;
 
 use cml_check::Prog;

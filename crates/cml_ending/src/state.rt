@@ -2,17 +2,13 @@
 
 ghost use Rattle.std.specs.Prelude.{◌≡◌, if◌then◌else◌, List, Option, length, option_map, slice_get};
 ghost use Rattle.cml_value.specs.Value.{PlainValue};
-ghost use Rattle.cml_hub.specs.Deeds.{origins};
-ghost use Rattle.cml_step.specs.Calls.{text_of};
-ghost use Rattle.cml_phrase.specs.Views.{plain_who, plain_told};
 ghost use Rattle.cml_ending.specs.Takes.{taker_in};
 ghost use Rattle.cml_ending.specs.Waits as spec;
 
 use crate::takers::Takers;
 use cml_book::Book;
-use cml_hub::Hub;
 use cml_index::OfferIndex;
-use cml_phrase::{ObjectState, Told, Who};
+use cml_phrase::ObjectState;
 use cml_scan::{Light, NackState};
 use cml_value::{Base, BaseKind, NackId, Tid};
 
@@ -67,8 +63,8 @@ fn nack_state(book: &Book<OfferIndex>, nack: NackId) -> ObjectState
     }
 }
 
-// Of what a base event waits for.
-fn object_state(book: &Book<OfferIndex>, base: &Base) -> ObjectState
+/// Of what a base event waits for.
+pub(crate) fn object_state(book: &Book<OfferIndex>, base: &Base) -> ObjectState
     ensures { result ≡ spec.object_state book.now base.now }
 {
     match base.kind() {
@@ -99,32 +95,5 @@ pub(crate) fn thread_behind(takers: &Takers, base: &Base) -> Option<u32>
         BaseKind::MSwap(m, _) => takers.last(*m),
         BaseKind::Join(t) => Some(t.0),
         _ => None,
-    }
-}
-
-/// A thread, with the function with which it began.
-pub fn who_is(hub: &Hub, thread: u32) -> Who<'_>
-    ensures { plain_who result
-        ≡ spec.who_is (origins (text_of hub.now.course.program) hub.now.course.items) thread }
-{
-    Who {
-        thread: Tid(thread),
-        began: hub.origin(Tid(thread)),
-    }
-}
-
-/// What is said of a base event.
-pub(crate) fn base_told<'a>(hub: &'a Hub, takers: &Takers, base: &'a Base) -> Told<'a>
-    ensures { plain_told result
-        ≡ spec.base_told hub.now.course.world (origins (text_of hub.now.course.program) hub.now.course.items) (taker_in takers.now) base.now }
-{
-    let who = match thread_behind(takers, base) {
-        Some(thread) => Some(who_is(hub, thread)),
-        None => None,
-    };
-    Told {
-        base,
-        state: object_state(hub.book(), base),
-        who,
     }
 }

@@ -1,7 +1,7 @@
 //! How many turns each thread had.
 
 ghost use Rattle.std.specs.Prelude.{◌≡◌, ◌+◌, ◌<◌, ℕ, if◌then◌else◌, length, slice_index, IfOk};
-ghost use Rattle.cml_ending.specs.Lines as spec;
+ghost use Rattle.cml_ending.specs.Lefts as spec;
 
 use cml_hub::Item;
 use std::alloc::{AllocError, Global};

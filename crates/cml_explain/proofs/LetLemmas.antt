@@ -1,14 +1,10 @@
 -- The names that a function declares.
-use Rattle.std.proofs.Common.{◌≡◌, ℕ, ℤ, ◌+◌, ◌<◌, ◌≤◌, Bool, true, false, cond, List, [], ◌∷◌, ◌++◌, length, get_or, drop, Some, refl, sym, ap, ◌∙◌, arith, append_assoc}
-use Rattle.std.specs.Prelude.{find}
-use Rattle.std.specs.Option.{option_map}
+use Rattle.std.proofs.Common.{◌≡◌, ℕ, ℤ, ◌+◌, ◌<◌, ◌≤◌, List, [], ◌∷◌, ◌++◌, length, get_or, drop, refl, sym, ap, ◌∙◌, arith, append_assoc}
 use Rattle.std.proofs.Math.ListN.{drop_of_length-le}
 use Rattle.std.proofs.lemmas.List.{append-nil}
 use Rattle.cml_text.specs.declared.sexpr.Span.{Span}
 use Rattle.cml_text.specs.Forms.{PlainSexpr, plain_name, plain_int, plain_text, plain_list, forms_and, plain_forms, span_of}
-use Rattle.cml_explain.specs.declared.lets.Declared.{Declared}
-use Rattle.cml_explain.specs.Lets.{PlainDeclared, let_declared, lets_in, lets_among}
-use Rattle.cml_explain.specs.LetViews.{plain_declared, all_declared}
+use Rattle.cml_explain.specs.Names.{PlainDeclared, let_declared, lets_in, lets_among}
 use Rattle.cml_explain.proofs.PieceLemmas.{forms_back}
 use Rattle.cml_explain.proofs.StandLemmas.{drop-at}
 
@@ -16,14 +12,6 @@ pub short_let : (span : Span) (forms : List PlainSexpr) → length forms < 2 →
 short_let span [] h = refl
 short_let span (a ∷ []) h = refl
 short_let span (a ∷ b ∷ forms) h = absurd (omega arith)
-
--- to find among the views is to find, and then to view
-pub find_declared : (test : PlainDeclared → Bool) (found : List Declared) →
-    option_map plain_declared (find (λ d. test (plain_declared d)) found) ≡ find test (all_declared found)
-find_declared test [] = refl
-find_declared test (d ∷ found) =
-    elim (test (plain_declared d)) as (λ b. option_map plain_declared (cond b (Some d) (find (λ d. test (plain_declared d)) found)) ≡ cond b (Some (plain_declared d)) (find test (all_declared found)))
-    [ true ↦ refl | false ↦ find_declared test found ]
 
 assoc3 : (a b c : List PlainDeclared) → (a ++ b) ++ c ≡ a ++ (b ++ c)
 assoc3 a b c = simp append_assoc

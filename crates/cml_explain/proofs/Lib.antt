@@ -4,4 +4,3 @@ pub mod StandLemmas
 pub mod LetLemmas
 pub mod NearLemmas
 pub mod TextLemmas
-pub mod KeywordLemmas

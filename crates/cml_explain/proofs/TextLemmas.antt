@@ -1,11 +1,6 @@
--- How a text is gone through for the next function, and what stands where pieces were appended.
-use Rattle.std.proofs.Common.{◌≡◌, ℕ, ◌+◌, ◌<◌, ◌≤◌, true, false, Some, None, List, [], ◌∷◌, ◌++◌, length, get_or, drop, refl, ap, ◌∙◌, append_assoc, arith}
-use Rattle.std.specs.Prelude.{Result, Ok, Err, Vec, IfOk}
-use Rattle.std.specs.declared.alloc.Global.{Global}
+-- How a text is gone through for the next function.
+use Rattle.std.proofs.Common.{◌≡◌, ℕ, ◌+◌, ◌<◌, ◌≤◌, true, false, Some, None, List, [], ◌∷◌, length, get_or, drop, refl, ap, ◌∙◌, arith}
 use Rattle.std.proofs.lemmas.List.{at_drop_more, at_drop_all}
-use Rattle.cml_place.specs.declared.diagnosis.Diagnosis.{Diagnosis}
-use Rattle.cml_place.specs.Diagnoses.{PlainDiagnosis, plain_diagnosis}
-use Rattle.cml_place.specs.Shown.{shown_diagnosis}
 use Rattle.cml_explain.specs.Texts.{is_before_function, next_function}
 
 none : (at : ℕ) → next_function at [] ≡ None
@@ -32,18 +27,3 @@ passed_at at xs i h e =
 
 pub none_at : (at : ℕ) (xs : List ℕ) (i : ℕ) → length xs ≤ i → next_function at (drop i xs) ≡ None
 none_at at xs i h = at_drop_all (next_function at) xs i h ∙ none at
-
--- two pieces behind a first one
-pub three_pieces : (o' o a b p q : List ℕ) → o ≡ o' → p ≡ o ++ a → q ≡ p ++ b → q ≡ o' ++ (a ++ b)
-three_pieces o' o a b p q d e f = let h : q ≡ (o' ++ a) ++ b = cc in h ∙ append_assoc o' a b
-
--- what is shown of the parts that a diagnosis has
-pub shown_of : {E : Type 0} (r : Result (Vec ℕ Global) E) (name part part' : List ℕ) (d d' : PlainDiagnosis) → part ≡ part' → d ≡ d'
-    → IfOk r (λ v. v.items ≡ shown_diagnosis name part d) → IfOk r (λ v. v.items ≡ shown_diagnosis name part' d')
-shown_of (Ok v) name part part' d d' e f h = h ∙ (ap (λ w. shown_diagnosis name w d) e ∙ ap (λ w. shown_diagnosis name part' w) f)
-shown_of (Err x) name part part' d d' e f h = h
-
--- what is said, by the same parts
-pub said_same : {E : Type 0} (r : Result Diagnosis E) (x y : PlainDiagnosis) → IfOk r (λ said. plain_diagnosis said ≡ x) → x ≡ y → IfOk r (λ said. plain_diagnosis said ≡ y)
-said_same (Ok d) x y h e = h ∙ e
-said_same (Err f) x y h e = h

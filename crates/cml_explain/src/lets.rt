@@ -1,32 +1,20 @@
 //! The names that a function declares.
 
 ghost use Rattle.std.specs.{Prelude.{◌≡◌, ◌++◌, IfOk, OnOk, find, map}, Option.{option_map, option_to_list}, Str.{bytes_eq}};
-ghost use Rattle.cml_text.specs.Forms.{span_of, plain_forms};
-ghost use Rattle.cml_explain.specs.{Pieces.{item_parameters}, LetViews.{plain_declared, all_declared}};
-ghost use Rattle.cml_explain.specs.Lets as spec;
+ghost use Rattle.cml_text.specs.Forms.{plain_forms};
+ghost use Rattle.cml_explain.specs.Views.{plain_declared, all_declared};
+ghost use Rattle.cml_explain.specs.Names as spec;
 
 use crate::near::{is_close, is_next};
 use crate::piece::{item_parameters, name_spelled};
 use cml_text::{Sexpr, Shape, Span};
 use std::alloc::{AllocError, Global};
 
-/// A name that a function declares: where it stands, and the byte from which on it is known.
+/// A name that a function declares, and the byte from which on it is known.
 #[derive(Clone, Copy)]
 pub struct Declared<'a> {
-    pub name: &'a str,
-    pub at: usize,
+    pub form: &'a Sexpr,
     pub known_from: usize,
-}
-
-// The form as a name that is known from this byte on.
-fn declared_by(known_from: usize, form: &Sexpr) -> Declared<'_>
-    ensures { plain_declared result ≡ spec.declared_by known_from form.now }
-{
-    Declared {
-        name: name_spelled(form),
-        at: form.span().start,
-        known_from,
-    }
 }
 
 // What a list of this span declares itself.
@@ -37,7 +25,10 @@ fn let_declared(span: Span, forms: &[Sexpr]) -> Option<Declared<'_>>
     match forms {
         [first, name, ..] => {
             if name_spelled(first) == "let" {
-                return Some(declared_by(span.end, name));
+                return Some(Declared {
+                    form: name,
+                    known_from: span.end,
+                });
             }
             None
         }
@@ -93,11 +84,14 @@ fn push_lets_among<'a>(forms: &'a [Sexpr], found: &mut Vec<Declared<'a>>) -> Res
 // The parameters of an item.
 fn parameters(alloc: Global, item: &Sexpr) -> Result<Vec<Declared<'_>>, AllocError>
     ensures { IfOk result (λ found.
-        all_declared found.items ≡ map spec.parameter_declared (item_parameters item.now)) }
+        all_declared found.items ≡ map spec.parameter_declared (spec.item_parameters item.now)) }
 {
     let mut found = Vec::new(alloc);
     for form in item_parameters(item) {
-        found.push(declared_by(form.span().end, form))?;
+        found.push(Declared {
+            form,
+            known_from: form.span().end,
+        })?;
     }
     Ok(found)
 }
@@ -113,57 +107,57 @@ pub fn declared_in(alloc: Global, item: &Sexpr) -> Result<Vec<Declared<'_>>, All
 
 // The first of these of this name.
 fn first_named<'a>(name: &str, found: &[Declared<'a>]) -> Option<Declared<'a>>
-    ensures { result ≡ find (λ d. bytes_eq d.name.now name.now) found.now }
+    ensures { result ≡ find (λ d. bytes_eq (spec.declared_name (plain_declared d)) name.now) found.now }
 {
-    found.iter().copied().find(|declared| declared.name == name)
+    found
+        .iter()
+        .copied()
+        .find(|declared| name_spelled(declared.form) == name)
 }
 
 /// The first of these of this name.
 pub fn declared_named<'a>(name: &str, found: &[Declared<'a>]) -> Option<Declared<'a>>
     ensures { option_map plain_declared result
-        ≡ spec.declared_named name.now (all_declared found.now) }
+        ≡ spec.first_named spec.declared_name name.now (all_declared found.now) }
 {
     first_named(name, found)
 }
 
-// Whether the name is known at a byte and differs by one letter.
-fn is_known_next(at: usize, name: &str, declared: Declared<'_>) -> bool
-    ensures { result ≡ spec.is_known_next at name.now (plain_declared declared.entry) }
+// The name, where it is known at a byte; else nothing.
+fn known_name<'a>(at: usize, declared: Declared<'a>) -> &'a str
+    ensures { result.now ≡ spec.known_name at (plain_declared declared.entry) }
 {
-    declared.known_from <= at && is_next(name, declared.name)
-}
-
-// Whether the name is known at a byte and differs by two letters at most.
-fn is_known_close(at: usize, name: &str, declared: Declared<'_>) -> bool
-    ensures { result ≡ spec.is_known_close at name.now (plain_declared declared.entry) }
-{
-    declared.known_from <= at && is_close(name, declared.name)
+    if declared.known_from <= at {
+        name_spelled(declared.form)
+    } else {
+        ""
+    }
 }
 
 // The first that is known at a byte and differs by one letter.
 fn first_next<'a>(at: usize, name: &str, found: &[Declared<'a>]) -> Option<Declared<'a>>
-    ensures { result ≡ find (λ d. spec.is_known_next at name.now (plain_declared d)) found.now }
+    ensures { result ≡ find (λ d. spec.is_next name.now (spec.known_name at (plain_declared d))) found.now }
 {
     found
         .iter()
         .copied()
-        .find(|declared| is_known_next(at, name, *declared))
+        .find(|declared| is_next(name, known_name(at, *declared)))
 }
 
 // The first that is known at a byte and differs by two letters at most.
 fn first_close<'a>(at: usize, name: &str, found: &[Declared<'a>]) -> Option<Declared<'a>>
-    ensures { result ≡ find (λ d. spec.is_known_close at name.now (plain_declared d)) found.now }
+    ensures { result ≡ find (λ d. spec.is_close name.now (spec.known_name at (plain_declared d))) found.now }
 {
     found
         .iter()
         .copied()
-        .find(|declared| is_known_close(at, name, *declared))
+        .find(|declared| is_close(name, known_name(at, *declared)))
 }
 
 // The same by what the names are.
 fn known_next<'a>(at: usize, name: &str, found: &[Declared<'a>]) -> Option<Declared<'a>>
     ensures { option_map plain_declared result
-        ≡ find (spec.is_known_next at name.now) (all_declared found.now) }
+        ≡ find (λ d. spec.is_next name.now (spec.known_name at d)) (all_declared found.now) }
 {
     first_next(at, name, found)
 }
@@ -171,7 +165,7 @@ fn known_next<'a>(at: usize, name: &str, found: &[Declared<'a>]) -> Option<Decla
 // The same by what the names are.
 fn known_close<'a>(at: usize, name: &str, found: &[Declared<'a>]) -> Option<Declared<'a>>
     ensures { option_map plain_declared result
-        ≡ find (spec.is_known_close at name.now) (all_declared found.now) }
+        ≡ find (λ d. spec.is_close name.now (spec.known_name at d)) (all_declared found.now) }
 {
     first_close(at, name, found)
 }
@@ -180,7 +174,7 @@ fn known_close<'a>(at: usize, name: &str, found: &[Declared<'a>]) -> Option<Decl
 #[tactic(auto, using(crate::proofs::OptionLemmas::or_first, crate::proofs::OptionLemmas::or_second))]
 pub fn nearest_known<'a>(at: usize, name: &str, found: &[Declared<'a>]) -> Option<Declared<'a>>
     ensures { option_map plain_declared result
-        ≡ spec.nearest_known at name.now (all_declared found.now) }
+        ≡ spec.nearest (spec.known_name at) name.now (all_declared found.now) }
 {
     match known_next(at, name, found) {
         Some(declared) => Some(declared),

@@ -1,10 +1,9 @@
 //! Which of several names is nearest to one.
 
-ghost use Rattle.std.specs.{Prelude.{◌≡◌, drop, find}, Str.{bytes_eq}};
-ghost use Rattle.cml_explain.specs.Keywords.{every_keyword};
-ghost use Rattle.cml_explain.specs.Nearest as spec;
+ghost use Rattle.std.specs.{Prelude.{◌≡◌, drop, find, map}, Option.{option_map}, Str.{bytes_eq}};
+ghost use Rattle.cml_explain.specs.Names as spec;
 
-use crate::keyword::{Keyword, keywords};
+use crate::keyword::spellings;
 
 // What is left of two names behind the letters with which both begin.
 #[tactic(auto, using(crate::proofs::NearLemmas::common_same, crate::proofs::NearLemmas::common_other, crate::proofs::NearLemmas::common_short, crate::proofs::NearLemmas::common_end))]
@@ -73,33 +72,51 @@ pub fn is_close(name: &str, other: &str) -> bool
     name.len() > 2 && within_two(name.as_bytes(), other.as_bytes())
 }
 
-// The first keyword that differs from a name by one letter.
-fn next_keyword(name: &str) -> Option<Keyword>
-    ensures { result ≡ find (spec.is_next_keyword name.now) every_keyword }
+// The first of these names that differs from a name by one letter.
+fn first_next<'a>(name: &str, found: &[&'a str]) -> Option<&'a str>
+    ensures { result ≡ find (λ other. spec.is_next name.now other.now) found.now }
 {
-    keywords()
-        .iter()
-        .copied()
-        .find(|keyword| is_next(name, keyword.spelling()))
+    found.iter().copied().find(|other| is_next(name, other))
 }
 
-// The first keyword that differs from a name by two letters at most.
-fn close_keyword(name: &str) -> Option<Keyword>
-    ensures { result ≡ find (spec.is_close_keyword name.now) every_keyword }
+// The first of these names that differs from a name by two letters at most.
+fn first_close<'a>(name: &str, found: &[&'a str]) -> Option<&'a str>
+    ensures { result ≡ find (λ other. spec.is_close name.now other.now) found.now }
 {
-    keywords()
-        .iter()
-        .copied()
-        .find(|keyword| is_close(name, keyword.spelling()))
+    found.iter().copied().find(|other| is_close(name, other))
 }
 
-/// The keyword that is nearest to a name, if one is near.
+// The same by what the names are.
+fn next_name<'a>(name: &str, found: &[&'a str]) -> Option<&'a str>
+    ensures { option_map (λ other. other.now) result
+        ≡ find (spec.is_next name.now) (map (λ other. other.now) found.now) }
+{
+    first_next(name, found)
+}
+
+// The same by what the names are.
+fn close_name<'a>(name: &str, found: &[&'a str]) -> Option<&'a str>
+    ensures { option_map (λ other. other.now) result
+        ≡ find (spec.is_close name.now) (map (λ other. other.now) found.now) }
+{
+    first_close(name, found)
+}
+
+// The nearest of these names, if one is near.
 #[tactic(auto, using(crate::proofs::OptionLemmas::or_first, crate::proofs::OptionLemmas::or_second))]
-pub fn nearest_keyword(name: &str) -> Option<Keyword>
-    ensures { result ≡ spec.keyword_near name.now }
+fn nearest_name<'a>(name: &str, found: &[&'a str]) -> Option<&'a str>
+    ensures { option_map (λ other. other.now) result
+        ≡ spec.nearest (λ other. other) name.now (map (λ other. other.now) found.now) }
 {
-    match next_keyword(name) {
-        Some(keyword) => Some(keyword),
-        None => close_keyword(name),
+    match next_name(name, found) {
+        Some(other) => Some(other),
+        None => close_name(name, found),
     }
+}
+
+/// How the keyword is spelled that is nearest to a name, if one is near.
+pub fn nearest_keyword(name: &str) -> Option<&'static str>
+    ensures { option_map (λ spelling. spelling.now) result ≡ spec.keyword_near name.now }
+{
+    nearest_name(name, spellings())
 }

@@ -1,164 +1,134 @@
-//! What is wrong with a script, in words.
+//! What is wrong with a script.
 
-ghost use Rattle.std.specs.{Prelude.{◌≡◌, IfOk, map}, String.{string_bytes}, Option.{option_map, option_to_list}};
-ghost use Rattle.cml_place.specs.Diagnoses.{plain_note, plain_diagnosis};
-ghost use Rattle.cml_explain.specs.{Pieces.{name_said, item_named}, Stands.{standing_at}, StandViews.{plain_stand}};
-ghost use Rattle.cml_explain.specs.ScriptExplained as spec;
+ghost use Rattle.std.specs.{Prelude.{◌≡◌, IfOk}, Option.{option_map}};
+ghost use Rattle.cml_explain.specs.{Names.{name_said}, Stands.{standing_at}, Views.{plain_stand, plain_script_trouble}};
+ghost use Rattle.cml_explain.specs.Troubles as spec;
 
-use crate::message::{arity_message, message_of};
-use crate::note::{nearest_note, note_by};
+use crate::hint::{Hint, hint_of, nearest_hint};
+use crate::keyword::Role;
 use crate::piece::{item_named, item_parameters, name_said};
 use crate::stand::{Stand, stand_at};
 use crate::trouble::{Trouble, trouble_of};
 use cml_check::CheckKind;
-use cml_place::{Diagnosis, Note, render};
 use cml_text::Sexpr;
 use std::alloc::{AllocError, Global};
 
-// What is said where a function is given another number of values.
-fn given_message(
-    alloc: Global,
-    item: Option<&Sexpr>,
-    stand: Stand<'_>,
-    name: &str,
-) -> Result<String, AllocError>
-    ensures { IfOk result (λ text. string_bytes text
-        ≡ spec.given_message (option_map (λ item. item.now) item.entry) (plain_stand stand.entry) name.now) }
+// The name of the function with which a program begins.
+const MAIN: &str = "main";
+
+/// What is wrong with a script.
+#[derive(Clone, Copy)]
+pub struct ScriptTrouble<'a> {
+    pub trouble: Trouble,
+    /// The byte at which it is met.
+    pub at: usize,
+    /// Up to which byte the text is marked from there, where it is shown.
+    pub marked_to: Option<usize>,
+    /// The name that is spoken of.
+    pub name: &'a str,
+    /// The parameters of the function of this name, where there is one.
+    pub parameters: Option<&'a [Sexpr]>,
+    pub hint: Option<Hint<'a>>,
+}
+
+// The parameters of the function of this name, if there is one.
+fn parameters_of<'a>(name: &str, items: &'a [Sexpr]) -> Option<&'a [Sexpr]>
+    ensures { option_map (λ forms. forms.now) result ≡ spec.parameters_of name.now items.now }
 {
-    match item {
-        Some(item) => {
-            let parameters = item_parameters(item);
-            arity_message(alloc, name, parameters, stand.layout, stand.given)
-        }
-        None => message_of(alloc, Trouble::Given, name),
+    match item_named(name, items) {
+        Some(item) => Some(item_parameters(item)),
+        None => None,
     }
 }
 
-// What is said of a trouble with a form.
-fn whole_message(
+// What is wrong with a form, where it stands.
+fn stand_trouble<'a>(
     alloc: Global,
-    trouble: Trouble,
-    stand: Stand<'_>,
-    name: &str,
-    items: &[Sexpr],
-) -> Result<String, AllocError>
-    ensures { IfOk result (λ text. string_bytes text
-        ≡ spec.whole_message trouble (plain_stand stand.entry) name.now items.now) }
-{
-    match trouble {
-        Trouble::Given => given_message(alloc, item_named(name, items), stand, name),
-        _ => message_of(alloc, trouble, name),
-    }
-}
-
-// A note alone, or none.
-fn notes_of(alloc: Global, note: Option<Note>) -> Result<Vec<Note>, AllocError>
-    ensures { IfOk result (λ notes.
-        map plain_note notes.items ≡ option_to_list (option_map plain_note note)) }
-{
-    let mut notes = Vec::new(alloc);
-    if let Some(note) = note {
-        notes.push(note)?;
-    }
-    Ok(notes)
-}
-
-// What is said of a form, where it stands.
-fn stand_diagnosis(
-    alloc: Global,
+    kind: CheckKind,
     at: usize,
-    trouble: Trouble,
-    stand: Stand<'_>,
-    items: &[Sexpr],
-) -> Result<Diagnosis, AllocError>
+    stand: Stand<'a>,
+    items: &'a [Sexpr],
+) -> Result<ScriptTrouble<'a>, AllocError>
     ensures { let stood = plain_stand stand.entry in let name = name_said stood.form in
-        IfOk result (λ diagnosis.
-        plain_diagnosis diagnosis ≡ spec.stand_diagnosis at trouble stood name items.now) }
+        IfOk result (λ trouble. plain_script_trouble trouble ≡ spec.stand_trouble kind at stood name items.now) }
 {
     let name = name_said(stand.form);
-    let message = whole_message(alloc, trouble, stand, name, items)?.into_bytes();
-    let note = note_by(alloc, trouble, at, name, stand.form, items)?;
-    Ok(Diagnosis {
+    let trouble = trouble_of(kind, stand);
+    let hint = hint_of(alloc, trouble, at, name, stand.form, items)?;
+    Ok(ScriptTrouble {
+        trouble,
         at,
         marked_to: Some(stand.form.span().end),
-        message,
-        notes: notes_of(alloc, note)?,
+        name,
+        parameters: parameters_of(name, items),
+        hint,
     })
 }
 
-// What is said of the form that starts at a byte, if one does.
-fn form_diagnosis(
-    alloc: Global,
-    kind: CheckKind,
-    at: usize,
-    items: &[Sexpr],
-) -> Result<Diagnosis, AllocError>
-    ensures { IfOk result (λ diagnosis.
-        plain_diagnosis diagnosis ≡ spec.form_diagnosis kind at (standing_at at items.now) items.now) }
+// What is wrong where no form starts.
+fn lost_trouble(at: usize) -> ScriptTrouble<'static>
+    ensures { plain_script_trouble result ≡ spec.lost_trouble at }
 {
-    match stand_at(at, items) {
-        Some(stand) => stand_diagnosis(alloc, at, trouble_of(kind, stand), stand, items),
-        None => Ok(Diagnosis {
-            at,
-            marked_to: None,
-            message: String::from_str(alloc, "this form does not fit here")?.into_bytes(),
-            notes: Vec::new(alloc),
-        }),
+    ScriptTrouble {
+        trouble: Trouble::Wanted(Role::Keyword),
+        at,
+        marked_to: None,
+        name: "",
+        parameters: None,
+        hint: None,
     }
 }
 
-// What is said where there is no `main`.
-fn main_diagnosis(alloc: Global, at: usize, items: &[Sexpr]) -> Result<Diagnosis, AllocError>
-    ensures { IfOk result (λ diagnosis.
-        plain_diagnosis diagnosis ≡ spec.main_diagnosis at items.now) }
-{
-    let message = message_of(alloc, Trouble::NoMain, "")?.into_bytes();
-    let note = nearest_note(alloc, "main", items)?;
-    Ok(Diagnosis {
-        at,
-        marked_to: None,
-        message,
-        notes: notes_of(alloc, note)?,
-    })
-}
-
-// What is said of a fault of a script, where it stands.
-fn script_diagnosis(
+// What is wrong with the form that starts at a byte, if one does.
+fn form_trouble<'a>(
     alloc: Global,
-    items: &[Sexpr],
     kind: CheckKind,
     at: usize,
-) -> Result<Diagnosis, AllocError>
-    ensures { IfOk result (λ diagnosis. plain_diagnosis diagnosis
-        ≡ spec.script_diagnosis items.now (record { kind = kind; at = at })) }
+    items: &'a [Sexpr],
+) -> Result<ScriptTrouble<'a>, AllocError>
+    ensures { IfOk result (λ trouble. plain_script_trouble trouble
+        ≡ spec.standing_trouble kind at (standing_at at items.now) items.now) }
+{
+    match stand_at(at, items) {
+        Some(stand) => stand_trouble(alloc, kind, at, stand, items),
+        None => Ok(lost_trouble(at)),
+    }
+}
+
+// There is no `main`.
+fn main_trouble(at: usize, items: &[Sexpr]) -> ScriptTrouble<'_>
+    ensures { plain_script_trouble result ≡ spec.main_trouble at items.now }
+{
+    ScriptTrouble {
+        trouble: Trouble::NoFunction,
+        at,
+        marked_to: None,
+        name: MAIN,
+        parameters: None,
+        hint: nearest_hint(MAIN, items),
+    }
+}
+
+/// What is wrong with a script of these forms, whose fault of this kind stands at this byte.
+///
+/// # Errors
+/// Out of memory.
+pub fn script_trouble(
+    alloc: Global,
+    forms: &[Sexpr],
+    kind: CheckKind,
+    at: usize,
+) -> Result<ScriptTrouble<'_>, AllocError>
+    ensures { IfOk result (λ trouble. plain_script_trouble trouble
+        ≡ spec.script_trouble forms.now (record { kind = kind; at = at })) }
 {
     match kind {
-        CheckKind::Main => main_diagnosis(alloc, at, items),
+        CheckKind::Main => Ok(main_trouble(at, forms)),
         CheckKind::Form
         | CheckKind::Double
         | CheckKind::Function
         | CheckKind::Unbound
         | CheckKind::Arity
-        | CheckKind::Limit => form_diagnosis(alloc, kind, at, items),
+        | CheckKind::Limit => form_trouble(alloc, kind, at, forms),
     }
-}
-
-/// What is wrong with a script: the text that is shown of the fault of this kind at this byte, for a script of this name and text, whose
-/// forms these are.
-///
-/// # Errors
-/// Out of memory.
-pub fn explain_script(
-    alloc: Global,
-    name: &str,
-    text: &[u8],
-    forms: &[Sexpr],
-    kind: CheckKind,
-    at: usize,
-) -> Result<Vec<u8>, AllocError>
-    ensures { IfOk result (λ shown. shown.items
-        ≡ spec.script_explained name.now text.now forms.now (record { kind = kind; at = at })) }
-{
-    let diagnosis = script_diagnosis(alloc, forms, kind, at)?;
-    render(alloc, name, text, &diagnosis)
 }

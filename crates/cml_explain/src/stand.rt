@@ -1,108 +1,92 @@
 //! Where a form stands in a script.
 
-ghost use Rattle.std.specs.{Prelude.{◌≡◌}, Option.{option_map}};
+ghost use Rattle.std.specs.{Prelude.{◌≡◌, None}, Option.{option_map}};
 ghost use Rattle.cml_text.specs.Forms.{plain_forms};
-ghost use Rattle.cml_explain.specs.StandViews.{plain_stand};
+ghost use Rattle.cml_explain.specs.Views.{plain_stand};
 ghost use Rattle.cml_explain.specs.Stands as spec;
 
-use crate::keyword::Layout;
-use crate::piece::{head_of, layout_of};
+use crate::keyword::{Role, keyword_entry};
+use cml_check::{Word, word_from};
 use cml_text::{Sexpr, Shape};
 
-/// What a form is, by where it stands.
-#[derive(Clone, Copy, PartialEq, Eq)]
-pub enum Role {
-    /// An item of the script.
-    Item,
-    /// The name of a function, where it is declared.
-    FunctionName,
-    /// The list of a function's parameters.
-    Parameters,
-    Parameter,
-    Statement,
-    /// A branch of an `if`.
-    Block,
-    /// The name that `let` declares, or that `set` gives a value.
-    Variable,
-    /// What `let` gives its variable.
-    Source,
-    /// What `set` gives its variable.
-    SetValue,
-    Value,
-    /// The name of a function that is called.
-    Called,
-    /// What a list begins with.
-    Keyword,
-}
-
-/// A form, what it is, and of the list whose part it is, what stands where there, and how many parts there are behind the first.
+/// A form, what it is, and of the list whose part it is, the keyword with which that begins, and how many parts there are behind the first.
 #[derive(Clone, Copy)]
 pub struct Stand<'a> {
     pub role: Role,
-    pub layout: Layout,
+    pub word: Option<Word>,
     pub given: usize,
     pub form: &'a Sexpr,
 }
 
+// The keyword with which these forms begin.
+fn first_word(forms: &[Sexpr]) -> Option<Word>
+    ensures { result ≡ spec.first_word (plain_forms forms.now) }
+{
+    match forms {
+        [] => None,
+        [first, ..] => word_from(first),
+    }
+}
+
 // What the part of this number is, where the first is the keyword.
-fn nth_role(k: usize, second: Role, third: Role, others: Role) -> Role
-    ensures { result ≡ spec.nth_role k second third others }
+fn nth_role(k: usize, first: Role, second: Role, others: Role) -> Role
+    ensures { result ≡ spec.nth_role k first second others }
 {
     match k {
         0 => Role::Keyword,
-        1 => second,
-        2 => third,
+        1 => first,
+        2 => second,
         _ => others,
     }
 }
 
-// What the part of this number is.
-fn role_at(layout: Layout, k: usize) -> Role
-    ensures { result ≡ spec.role_at layout k }
+// What the part of this number is, in a list that begins with this keyword.
+fn role_at(k: usize, word: Option<Word>) -> Role
+    ensures { result ≡ spec.role_at k word }
 {
-    match layout {
-        Layout::Script => Role::Item,
-        Layout::Item => nth_role(k, Role::FunctionName, Role::Parameters, Role::Statement),
-        Layout::Block => nth_role(k, Role::Statement, Role::Statement, Role::Statement),
-        Layout::Let => nth_role(k, Role::Variable, Role::Source, Role::Source),
-        Layout::Set => nth_role(k, Role::Variable, Role::SetValue, Role::SetValue),
-        Layout::If => nth_role(k, Role::Value, Role::Block, Role::Block),
-        Layout::While => nth_role(k, Role::Value, Role::Statement, Role::Statement),
-        Layout::Call => nth_role(k, Role::Called, Role::Value, Role::Value),
-        Layout::Wrap => nth_role(k, Role::Value, Role::Called, Role::Value),
-        Layout::WithNack => nth_role(k, Role::Called, Role::Value, Role::Value),
-        Layout::Values => nth_role(k, Role::Value, Role::Value, Role::Value),
+    match word {
+        Some(word) => {
+            let keyword = keyword_entry(word);
+            nth_role(k, keyword.first, keyword.second, keyword.others)
+        }
+        None => nth_role(k, Role::Value, Role::Value, Role::Value),
     }
 }
 
 // What the part of this number is, in a list of this role.
-fn part_role(role: Role, layout: Layout, k: usize) -> Role
-    ensures { result ≡ spec.part_role role layout k }
+fn part_role(k: usize, role: Role, word: Option<Word>) -> Role
+    ensures { result ≡ spec.part_role k role word }
 {
     match role {
         Role::Parameters => Role::Parameter,
-        _ => role_at(layout, k),
+        _ => role_at(k, word),
     }
 }
 
 // The form that starts at this byte, where it is this one or stands inside it.
 #[cycle(stand)]
 #[tactic(auto, using(crate::proofs::StandLemmas::stand_here, crate::proofs::StandLemmas::stand_below, crate::proofs::StandLemmas::stand_name, crate::proofs::StandLemmas::stand_int, crate::proofs::StandLemmas::stand_text))]
-fn stand_in(form: &Sexpr, at: usize, role: Role, layout: Layout, given: usize) -> Option<Stand<'_>>
-    ensures { option_map plain_stand result ≡ spec.standing_in at role layout given form.now }
+fn stand_in(
+    form: &Sexpr,
+    at: usize,
+    role: Role,
+    word: Option<Word>,
+    given: usize,
+) -> Option<Stand<'_>>
+    ensures { option_map plain_stand result ≡ spec.standing_in at role word given form.now }
 {
     if form.span().start == at {
         return Some(Stand {
             role,
-            layout,
+            word,
             given,
             form,
         });
     }
     match form.shape() {
         Shape::List(forms) => {
-            let layout = layout_of(head_of(forms));
-            stand_among(forms, at, role, layout, forms.len().saturating_sub(1))
+            let word = first_word(forms);
+            stand_among(forms, at, role, word, forms.len().saturating_sub(1))
         }
         Shape::Name(_) => None,
         Shape::Int(_) => None,
@@ -116,25 +100,18 @@ fn stand_among(
     forms: &[Sexpr],
     at: usize,
     role: Role,
-    layout: Layout,
+    word: Option<Word>,
     given: usize,
 ) -> Option<Stand<'_>>
     ensures { option_map plain_stand result
-        ≡ spec.stand_among at role layout given 0 (plain_forms forms.now) }
+        ≡ spec.stand_among at role word given 0 (plain_forms forms.now) }
 {
     for (k, form) in forms.iter().enumerate() {
         if at < form.span().end {
-            return stand_in(form, at, part_role(role, layout, k), layout, given);
+            return stand_in(form, at, part_role(k, role, word), word, given);
         }
     }
     None
-}
-
-/// The form of a script that starts at this byte.
-pub fn stand_at(at: usize, items: &[Sexpr]) -> Option<Stand<'_>>
-    ensures { option_map plain_stand result ≡ spec.standing_at at items.now }
-{
-    stand_among(items, at, Role::Item, Layout::Script, 0)
 }
 
 /// The first item that ends behind this byte.
@@ -142,4 +119,12 @@ pub fn item_over(at: usize, items: &[Sexpr]) -> Option<&Sexpr>
     ensures { option_map (λ item. item.now) result ≡ spec.item_over at items.now }
 {
     items.iter().find(|item| at < item.span().end)
+}
+
+/// The form of a script that starts at this byte.
+pub fn stand_at(at: usize, items: &[Sexpr]) -> Option<Stand<'_>>
+    ensures { option_map plain_stand result ≡ spec.standing_at at items.now }
+{
+    let item = item_over(at, items)?;
+    stand_in(item, at, Role::Item, None, 0)
 }

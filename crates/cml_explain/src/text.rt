@@ -1,198 +1,122 @@
-//! What is wrong with a text: a diagnosis for each of its faults, shown.
-ghost use Rattle.std.specs.{Prelude.{◌≡◌, ◌+◌, ◌^◌, ◌<◌, ◌∷◌, [], None, IfOk, length, map, drop}, List.{prefix_len}};
+//! What is wrong with a text.
+
+ghost use Rattle.std.specs.{Prelude.{◌≡◌, ◌+◌, ◌^◌, ◌<◌, length}, List.{prefix_len}};
 ghost use Rattle.cml_text.specs.Lexemes as lexemes;
-ghost use Rattle.cml_place.specs.Diagnoses.{plain_note, plain_diagnosis};
+ghost use Rattle.cml_explain.specs.Views.{plain_text_trouble};
 ghost use Rattle.cml_explain.specs.Texts as spec;
 
-use cml_place::{Diagnosis, Note, first_characters, push_first, render, split_place};
+use cml_place::{first_characters, split_place};
 use cml_text::FaultKind;
-use std::alloc::{AllocError, Global};
 
 // The most bytes of a text.
 const TEXT_LIMIT: usize = 1_048_576;
 
-// How many characters of a token are said again.
-const TOKEN_LIMIT: usize = 40;
-
-/// What is wrong with a text, which has this name, in words: its fault of this kind at this byte, with its line and a mark.
-///
-/// # Errors
-/// Out of memory.
-pub fn explain_text(
-    alloc: Global,
-    name: &str,
-    text: &[u8],
-    kind: FaultKind,
-    at: usize,
-) -> Result<Vec<u8>, AllocError>
-    ensures { IfOk result
-        (λ shown. shown.items ≡ spec.text_explained name.now text.now (record { kind = kind; at = at })) }
-{
-    let diagnosis = text_said(alloc, text, kind, at)?;
-    render(alloc, name, part_shown(text, kind, at), &diagnosis)
+/// What was found in a text.
+#[derive(Clone, Copy, PartialEq, Eq)]
+pub enum Found {
+    /// A list that is not closed.
+    OpenList,
+    /// A text literal that is not closed.
+    OpenLiteral,
+    /// A parenthesis that closes nothing.
+    Stray,
+    /// A token that is neither a number nor a name.
+    Token,
+    /// A backslash that makes no escape.
+    Escape,
+    /// A number that is out of range.
+    Number,
+    /// A list inside too many others.
+    Deep,
+    /// A text that is too long.
+    LongText,
+    /// A text literal that is too long.
+    LongLiteral,
+    /// Bytes that are not UTF-8.
+    Utf8,
 }
 
-// What of the text is shown.
-fn part_shown(text: &[u8], kind: FaultKind, at: usize) -> &[u8]
-    ensures { result.now ≡ spec.part_shown text.now kind at }
+/// What is wrong with a text.
+#[derive(Clone, Copy)]
+pub struct TextTrouble<'a> {
+    pub found: Found,
+    /// The byte at which it stands.
+    pub at: usize,
+    /// Up to which byte the text is marked from there, where it is shown.
+    pub marked_to: Option<usize>,
+    /// The piece of the text that is at fault: a token, or an escape.
+    pub piece: &'a [u8],
+    /// Where the next function begins behind a list that is not closed.
+    pub next_function: Option<usize>,
+    /// What of the text is shown.
+    pub shown: &'a [u8],
+}
+
+/// What is wrong with a text whose fault of this kind stands at this byte.
+pub fn text_trouble(text: &[u8], kind: FaultKind, at: usize) -> TextTrouble<'_>
+    ensures { plain_text_trouble result
+        ≡ spec.text_trouble text.now (record { kind = kind; at = at }) }
+{
+    let found = found_by(text, kind, at);
+    let piece = piece_by(found, text, at);
+    TextTrouble {
+        found,
+        at,
+        marked_to: marked_by(found, at, piece),
+        piece,
+        next_function: function_behind(found, text, at),
+        shown: shown_by(found, text, at),
+    }
+}
+
+// What was found, by the kind of the fault.
+fn found_by(text: &[u8], kind: FaultKind, at: usize) -> Found
+    ensures { result ≡ spec.found_by text.now kind at }
 {
     match kind {
-        FaultKind::Utf8 => {
-            let (before, _) = split_place(text, at);
-            before
-        }
-        _ => text,
+        FaultKind::Unclosed => open_at(text, at),
+        FaultKind::Stray => Found::Stray,
+        FaultKind::Character => Found::Token,
+        FaultKind::Escape => Found::Escape,
+        FaultKind::Number => Found::Number,
+        FaultKind::Deep => Found::Deep,
+        FaultKind::Long => long_in(text),
+        FaultKind::Utf8 => Found::Utf8,
     }
 }
 
-// What is said of a fault.
-fn text_said(
-    alloc: Global,
-    text: &[u8],
-    kind: FaultKind,
-    at: usize,
-) -> Result<Diagnosis, AllocError>
-    ensures { IfOk result (λ said. plain_diagnosis said ≡ spec.text_said text.now kind at) }
+// What does not end there.
+fn open_at(text: &[u8], at: usize) -> Found
+    ensures { result ≡ spec.found_by text.now FaultKind.Unclosed at }
 {
-    match kind {
-        FaultKind::Unclosed => unclosed_said(alloc, text, at),
-        FaultKind::Stray => said_alone(alloc, at, b"this parenthesis closes nothing"),
-        FaultKind::Character => character_said(alloc, text, at),
-        FaultKind::Escape => escape_said(alloc, text, at),
-        FaultKind::Number => number_said(alloc, text, at),
-        FaultKind::Deep => deep_said(alloc, at),
-        FaultKind::Long => long_said(alloc, text, at),
-        FaultKind::Utf8 => said_alone(alloc, at, b"the text is not UTF-8 from here on"),
+    if at < text.len() && text[at] == b'"' {
+        Found::OpenLiteral
+    } else {
+        Found::OpenList
     }
 }
 
-// A list or a text literal that does not end.
-fn unclosed_said(alloc: Global, text: &[u8], at: usize) -> Result<Diagnosis, AllocError>
-    ensures { IfOk result (λ said. plain_diagnosis said ≡ spec.unclosed_said text.now at) }
-{
-    if is_quote_at(text, at) {
-        return said_there(
-            alloc,
-            at,
-            b"this text literal is not closed",
-            Vec::new(alloc),
-        );
-    }
-    let (_, behind) = split_place(text, at);
-    let notes = end_notes(alloc, next_function(at, behind))?;
-    said_there(alloc, at, b"this list is not closed", notes)
-}
-
-// Whether a quote stands there.
-fn is_quote_at(text: &[u8], at: usize) -> bool
-    ensures { result ≡ spec.is_quote_at text.now at }
-{
-    at < text.len() && text[at] == b'"'
-}
-
-// Where the first line begins, among those that begin in the bytes, that has `(fn` at the left margin.
-fn next_function(at: usize, bytes: &[u8]) -> Option<usize>
-    requires { at + length bytes.now < 2 ^ 64 }
-    ensures { result ≡ spec.next_function at bytes.now }
-{
-    for (i, byte) in bytes.iter().enumerate() {
-        if is_before_function(*byte, &bytes[i + 1..]) {
-            return Some(at + i + 1);
-        }
-    }
-    None
-}
-
-// Whether the byte is a line feed, and the line behind it begins with `(fn`.
-fn is_before_function(byte: u8, behind: &[u8]) -> bool
-    ensures { result ≡ spec.is_before_function byte behind.now }
-{
-    byte == b'\n' && behind.starts_with(b"(fn")
-}
-
-// What is added of a list that does not end.
-fn end_notes(alloc: Global, place: Option<usize>) -> Result<Vec<Note>, AllocError>
-    ensures { IfOk result (λ notes. map plain_note notes.items ≡ spec.end_notes place) }
-{
-    match place {
-        Some(place) => one_note(
-            alloc,
-            b"a `)` is most likely missing before the function",
-            Some(place),
-        ),
-        None => Ok(Vec::new(alloc)),
-    }
-}
-
-// A token that is neither a number nor a name.
-fn character_said(alloc: Global, text: &[u8], at: usize) -> Result<Diagnosis, AllocError>
-    ensures { IfOk result (λ said. plain_diagnosis said ≡ spec.character_said text.now at) }
-{
-    let token = token_at(text, at);
-    let message = character_message(alloc, token)?;
-    said_of(alloc, at, token, message.as_slice(), Vec::new(alloc))
-}
-
-// The sentence on it.
-fn character_message(alloc: Global, token: &[u8]) -> Result<Vec<u8>, AllocError>
-    ensures { IfOk result (λ message. message.items ≡ spec.character_message token.now) }
-{
-    let mut message = Vec::from_slice(alloc, b"`")?;
-    push_first(&mut message, token, TOKEN_LIMIT)?;
-    message.extend_from_slice(b"` is neither a number nor a name")?;
-    Ok(message)
-}
-
-// A backslash that makes no escape.
-fn escape_said(alloc: Global, text: &[u8], at: usize) -> Result<Diagnosis, AllocError>
-    ensures { IfOk result (λ said. plain_diagnosis said ≡ spec.escape_said text.now at) }
-{
-    let (_, behind) = split_place(text, at);
-    said_of(
-        alloc,
-        at,
-        first_characters(behind, 2),
-        b"after a backslash stands `\"`, `\\` or `n`",
-        Vec::new(alloc),
-    )
-}
-
-// A number that is out of range.
-fn number_said(alloc: Global, text: &[u8], at: usize) -> Result<Diagnosis, AllocError>
-    ensures { IfOk result (λ said. plain_diagnosis said ≡ spec.number_said text.now at) }
-{
-    let notes = one_note(
-        alloc,
-        b"a number is from -9223372036854775808 to 9223372036854775807",
-        None,
-    )?;
-    said_of(
-        alloc,
-        at,
-        token_at(text, at),
-        b"this number is out of range",
-        notes,
-    )
-}
-
-// A list inside too many others.
-fn deep_said(alloc: Global, at: usize) -> Result<Diagnosis, AllocError>
-    ensures { IfOk result (λ said. plain_diagnosis said ≡ spec.deep_said at) }
-{
-    let notes = one_note(alloc, b"at most 256 lists stand inside one another", None)?;
-    said_there(alloc, at, b"this list stands inside 256 others", notes)
-}
-
-// A text, or a text literal, that is too long.
-fn long_said(alloc: Global, text: &[u8], at: usize) -> Result<Diagnosis, AllocError>
-    ensures { IfOk result (λ said. plain_diagnosis said ≡ spec.long_said text.now at) }
+// What is too long.
+fn long_in(text: &[u8]) -> Found
+    ensures { result ≡ spec.found_by text.now FaultKind.Long 0 }
 {
     if text.len() > TEXT_LIMIT {
-        let notes = one_note(alloc, b"a text has at most 1048576 bytes", None)?;
-        return said(alloc, at, None, b"the text is too long", notes);
+        Found::LongText
+    } else {
+        Found::LongLiteral
     }
-    let notes = one_note(alloc, b"a text literal has at most 4096 bytes", None)?;
-    said_there(alloc, at, b"this text literal is too long", notes)
+}
+
+// The piece of the text that is at fault.
+fn piece_by(found: Found, text: &[u8], at: usize) -> &[u8]
+    ensures piece { result.now ≡ spec.piece_by found text.now at }
+    ensures fits { at + length result.now < 2 ^ 64 }
+{
+    match found {
+        Found::Token | Found::Number => token_at(text, at),
+        Found::Escape => escape_at(text, at),
+        _ => &[],
+    }
 }
 
 // The token that stands there.
@@ -225,68 +149,68 @@ fn is_token_byte(byte: u8) -> bool
     )
 }
 
-// Said of one character.
-fn said_there(
-    alloc: Global,
-    at: usize,
-    message: &[u8],
-    notes: Vec<Note>,
-) -> Result<Diagnosis, AllocError>
-    ensures { let added = map plain_note notes.items in
-        IfOk result (λ said. plain_diagnosis said ≡ spec.said_there at message.now added) }
+// The backslash that stands there, and the character behind it.
+fn escape_at(text: &[u8], at: usize) -> &[u8]
+    ensures escape { result.now ≡ spec.piece_by Found.Escape text.now at }
+    ensures fits { at + length result.now < 2 ^ 64 }
 {
-    said(alloc, at, Some(at), message, notes)
+    let (_, behind) = split_place(text, at);
+    first_characters(behind, 2)
 }
 
-// Said of one character, with nothing added.
-fn said_alone(alloc: Global, at: usize, message: &[u8]) -> Result<Diagnosis, AllocError>
-    ensures { IfOk result (λ said. plain_diagnosis said ≡ spec.said_there at message.now []) }
-{
-    said_there(alloc, at, message, Vec::new(alloc))
-}
-
-// Said of the bytes that stand there, a piece of the text.
-fn said_of(
-    alloc: Global,
-    at: usize,
-    piece: &[u8],
-    message: &[u8],
-    notes: Vec<Note>,
-) -> Result<Diagnosis, AllocError>
+// Up to which byte the text is marked.
+fn marked_by(found: Found, at: usize, piece: &[u8]) -> Option<usize>
     requires { at + length piece.now < 2 ^ 64 }
-    ensures { let added = map plain_note notes.items in
-        IfOk result (λ said. plain_diagnosis said ≡ spec.said_of at piece.now message.now added) }
+    ensures { result ≡ spec.marked_by found at (length piece.now) }
 {
-    said(alloc, at, Some(at + piece.len()), message, notes)
+    match found {
+        Found::LongText => None,
+        _ => Some(at + piece.len()),
+    }
 }
 
-// A diagnosis of these parts.
-fn said(
-    alloc: Global,
-    at: usize,
-    marked_to: Option<usize>,
-    message: &[u8],
-    notes: Vec<Note>,
-) -> Result<Diagnosis, AllocError>
-    ensures { IfOk result (λ said. plain_diagnosis said
-        ≡ record { at = at; marked_to = marked_to; message = message.now; notes = map plain_note notes.items }) }
+// Where the next function begins, behind a list that does not end.
+fn function_behind(found: Found, text: &[u8], at: usize) -> Option<usize>
+    ensures { result ≡ spec.function_behind found text.now at }
 {
-    let message = Vec::from_slice(alloc, message)?;
-    Ok(Diagnosis {
-        at,
-        marked_to,
-        message,
-        notes,
-    })
+    match found {
+        Found::OpenList => {
+            let (_, behind) = split_place(text, at);
+            next_function(at, behind)
+        }
+        _ => None,
+    }
 }
 
-// A note alone.
-fn one_note(alloc: Global, words: &[u8], at: Option<usize>) -> Result<Vec<Note>, AllocError>
-    ensures { IfOk result
-        (λ notes. map plain_note notes.items ≡ record { words = words.now; at = at } ∷ []) }
+// Where the first line begins, among those that begin in the bytes, that has `(fn` at the left margin.
+fn next_function(at: usize, bytes: &[u8]) -> Option<usize>
+    requires { at + length bytes.now < 2 ^ 64 }
+    ensures { result ≡ spec.next_function at bytes.now }
 {
-    let words = Vec::from_slice(alloc, words)?;
-    let mut notes = Vec::new(alloc);
-    notes.push(Note { words, at })?;
-    Ok(notes)
+    for (i, byte) in bytes.iter().enumerate() {
+        if is_before_function(*byte, &bytes[i + 1..]) {
+            return Some(at + i + 1);
+        }
+    }
+    None
+}
+
+// Whether the byte is a line feed, and the line behind it begins with `(fn`.
+fn is_before_function(byte: u8, behind: &[u8]) -> bool
+    ensures { result ≡ spec.is_before_function byte behind.now }
+{
+    byte == b'\n' && behind.starts_with(b"(fn")
+}
+
+// What of the text is shown.
+fn shown_by(found: Found, text: &[u8], at: usize) -> &[u8]
+    ensures { result.now ≡ spec.shown_by found text.now at }
+{
+    match found {
+        Found::Utf8 => {
+            let (before, _) = split_place(text, at);
+            before
+        }
+        _ => text,
+    }
 }

@@ -1,8 +1,7 @@
 //! What is wrong with a line of a schedule.
 
-ghost use Rattle.std.specs.Prelude.{◌≡◌, ◌++◌, ◌-◌, ◌<◌, ◌^◌, length, option_map, slice_get, IfOk, OnOk};
+ghost use Rattle.std.specs.{Prelude.{◌≡◌, ◌-◌, ◌<◌, ◌^◌, length, slice_get}, Option.{option_map}};
 ghost use Rattle.cml_text.specs.Lines.{lines};
-ghost use Rattle.cml_explain.specs.Unfit as spec;
 
 use cml_place::push_first;
 use cml_text::Lines;
@@ -18,29 +17,12 @@ const LINE_LIMIT: usize = 40;
 /// Out of memory.
 pub fn explain_unfit(alloc: Global, text: &[u8], number: u64) -> Result<Vec<u8>, AllocError>
     requires { length text.now < 2 ^ 63 }
-    ensures { IfOk result (λ said. said.items ≡ spec.unfit_explained text.now number) }
 {
-    let mut said = format!(in alloc; "line {number}: ")?.into_bytes();
-    push_words(&mut said, line_of(text, number))?;
-    said.push(b'\n')?;
-    Ok(said)
+    write_unfit(alloc, number, unfit_line(text, number))
 }
 
-// What is said of a line, or where there is none.
-fn push_words(said: &mut Vec<u8>, line: Option<&[u8]>) -> Result<(), AllocError>
-    ensures { OnOk result (said.new.items ≡ said.old.items ++ spec.unfit_words (option_map (λ says. says.now) line.entry)) }
-{
-    match line {
-        Some(says) => {
-            push_first(said, says, LINE_LIMIT)?;
-            said.extend_from_slice(b": no line of a schedule is written so here")
-        }
-        None => said.extend_from_slice(b"the last line, `end`, is missing"),
-    }
-}
-
-// The line of this number, from 1, if there is one.
-fn line_of(text: &[u8], number: u64) -> Option<&[u8]>
+/// The line of this number, from 1, if there is one.
+pub fn unfit_line(text: &[u8], number: u64) -> Option<&[u8]>
     requires { length text.now < 2 ^ 63 }
     ensures { option_map (λ says. says.now) result ≡ slice_get (lines text.now) (number - 1) }
 {
@@ -51,4 +33,20 @@ fn line_of(text: &[u8], number: u64) -> Option<&[u8]>
         }
     }
     None
+}
+
+/// Says of the line of this number what it says, and that nothing is written so; or, where there is none, that the last line is missing.
+///
+/// # Errors
+/// Out of memory.
+pub fn write_unfit(alloc: Global, number: u64, line: Option<&[u8]>) -> Result<Vec<u8>, AllocError> {
+    let mut said = format!(in alloc; "line {number}: ")?.into_bytes();
+    match line {
+        Some(says) => {
+            push_first(&mut said, says, LINE_LIMIT)?;
+            said.extend_from_slice(b": no line of a schedule is written so here\n")?;
+        }
+        None => said.extend_from_slice(b"the last line, `end`, is missing\n")?,
+    }
+    Ok(said)
 }

@@ -114,8 +114,8 @@ fn rounds_follow_one_another(rt: HostRuntime) {
     for number in 0..2 {
         assert!(rt; number < one.classes().len() && number < two.classes().len());
         let (one, two) = (
-            one.classes().class(number).tally,
-            two.classes().class(number).tally,
+            one.classes().class(number).summary,
+            two.classes().class(number).summary,
         );
         assert_eq!(rt; two.runs(), one.runs());
         assert_eq!(rt; two.first(), one.first());
@@ -136,7 +136,7 @@ fn keeps_the_shortest_schedule(rt: HostRuntime) {
     let made = explore(rt.alloc(), &program, asked(0, 10, Order::Queue)).expect(&rt, MEMORY);
     assert_eq!(rt; made.runs(), 10);
     assert_eq!(rt; made.classes().len(), 2);
-    let first = made.classes().class(0).tally;
+    let first = made.classes().class(0).summary;
     assert_eq!(rt; first.runs(), 4);
     assert_eq!(rt; first.first(), 0);
     assert_eq!(rt; first.outputs(), 1);

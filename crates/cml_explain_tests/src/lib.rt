@@ -11,6 +11,8 @@ mod making;
 #[cfg(test)]
 mod pictures;
 #[cfg(test)]
+mod reasons;
+#[cfg(test)]
 mod scripts;
 #[cfg(test)]
 mod shrinkings;

@@ -1,9 +1,8 @@
 //! Pictures of runs.
 
 use crate::making::{MEMORY, forms, program, scheduled};
-use cml_chart::{Mark, Shape, picture_of};
-use cml_draw::{DrawFault, draw};
 use cml_hub::Hub;
+use cml_picture::{DrawFault, Mark, Shape, chart_of, draw};
 use std::process::Abort;
 
 // The text of the chart below, as another program wrote it.
@@ -40,7 +39,7 @@ fn mark(
     rt: &(impl Abort + AllocGlobal),
     shape: Shape,
     item: usize,
-    threads: (u32, u32),
+    threads: (u64, u64),
     words: (&str, &str),
     at: u32,
 ) -> Mark {
@@ -63,7 +62,7 @@ fn draws_a_chart(rt: HostRuntime) {
     let spawns = ("1 f", " 2  thread 0 main spawns thread 1 f\n");
     let waits = ("receive on channel 1", "receive on channel 1");
     let marks = vec![in rt.alloc();
-        mark(&rt, Shape::Head, 0, (0, 0), main, 40),
+        mark(&rt, Shape::Beginning, 0, (0, 0), main, 40),
         mark(&rt, Shape::Spawn, 2, (0, 1), spawns, 40),
         mark(
             &rt,
@@ -79,7 +78,7 @@ fn draws_a_chart(rt: HostRuntime) {
         mark(&rt, Shape::Lost, 0, (0, 0), waits, 154),
     ]
     .expect(&rt, MEMORY);
-    let picture = picture_of(rt.alloc(), "a.cml", 2, marks.as_slice(), 180).expect(&rt, MEMORY);
+    let picture = chart_of(rt.alloc(), "a.cml", 2, marks.as_slice()).expect(&rt, MEMORY);
     assert_eq!(rt; picture.as_slice(), CHART.as_bytes());
 }
 

@@ -4,7 +4,7 @@ ghost use Rattle.cml_hub.specs.Kept.{IsBudget};
 
 use crate::making::{MEMORY, forms, in_range, program, scheduled};
 use cml_hub::Item;
-use cml_shrink::{push_counts, shrink};
+use cml_shrink::{counts_of, push_counts, shrink};
 use std::process::Abort;
 use std::rt::HostRuntime;
 
@@ -82,7 +82,7 @@ const CASES: [Case; 6] = [
 // How long the two are, in words.
 fn counted(rt: &(impl Abort + AllocGlobal), old: &[Item], new: &[Item]) -> Vec<u8> {
     let mut said = Vec::new(rt.alloc());
-    push_counts(rt.alloc(), &mut said, old, new).expect(rt, MEMORY);
+    push_counts(rt.alloc(), &mut said, counts_of(old), counts_of(new)).expect(rt, MEMORY);
     said
 }
 

@@ -11,12 +11,13 @@ use Rattle.cml_hub.specs.Kept.{Kept}
 use Rattle.cml_explore.specs.declared.explored.Asked.{Asked}
 use Rattle.cml_schedule.specs.declared.item.Item.{Item}
 use Rattle.sha2.specs.Sha256.{sha256}
-use Rattle.cml_explore.specs.declared.detail.Detail.{Detail}
-use Rattle.cml_explore.specs.Details.{alike}
+use Rattle.cml_fault.specs.declared.detail.Detail.{Detail}
+use Rattle.cml_fault.specs.Details.{alike}
 use Rattle.cml_explore.specs.Classes.{Finish, PlainClass, grown, classed, classed_all}
 use Rattle.cml_explore.specs.declared.explored.Until.{Until}
-use Rattle.cml_explore.specs.declared.order.Order.{Order}
-use Rattle.cml_explore.specs.Finishes.{PlainEnded, is_well, stops, IsEndOf, EndsSoBy, EachEnds, IsSeedRun, finish_of}
+use Rattle.cml_seed.specs.declared.order.Order.{Order}
+use Rattle.cml_seed.specs.SeedRuns.{IsSeedRun}
+use Rattle.cml_explore.specs.Finishes.{PlainEnded, is_well, stops, IsEndOf, EndsSoBy, EachEnds, finish_of}
 use Rattle.cml_explore.specs.Explored.{PlainExplored, gathered, nothing_made, with_ended, IsExplored, SoFar, HasMade}
 use Rattle.cml_explore.specs.Merges.{StopsLast}
 
@@ -78,34 +79,34 @@ gathered_more first es n e at =
     let last : n ≡ first + length finishes = omega arith in
     same_parts _ _ _ _ _ _ (ap (λ l. classed_all first l []) (map_more es e) ∙ classed_more first finishes n e.finish [] last) (length_push es e) (all_more es e)
 
-few_if : (b : Bool) (n : ℕ) (end : Finish) (c : PlainClass) (cs rest : List PlainClass) → c.tally.runs ≤ n
-    → All (λ (x : PlainClass). x.tally.runs ≤ n + 1) cs → All (λ (x : PlainClass). x.tally.runs ≤ n + 1) rest
-    → All (λ (x : PlainClass). x.tally.runs ≤ n + 1) (if b then record c { tally = grown c.tally end } ∷ cs else c ∷ rest)
-few_if true n end c cs rest h old new = All-cons (λ (x : PlainClass). x.tally.runs ≤ n + 1) (record c { tally = grown c.tally end }) cs (omega arith) old
-few_if false n end c cs rest h old new = All-cons (λ (x : PlainClass). x.tally.runs ≤ n + 1) c rest (omega arith) new
+few_if : (b : Bool) (n : ℕ) (end : Finish) (c : PlainClass) (cs rest : List PlainClass) → c.summary.runs ≤ n
+    → All (λ (x : PlainClass). x.summary.runs ≤ n + 1) cs → All (λ (x : PlainClass). x.summary.runs ≤ n + 1) rest
+    → All (λ (x : PlainClass). x.summary.runs ≤ n + 1) (if b then record c { summary = grown c.summary end } ∷ cs else c ∷ rest)
+few_if true n end c cs rest h old new = All-cons (λ (x : PlainClass). x.summary.runs ≤ n + 1) (record c { summary = grown c.summary end }) cs (omega arith) old
+few_if false n end c cs rest h old new = All-cons (λ (x : PlainClass). x.summary.runs ≤ n + 1) c rest (omega arith) new
 
-few_classed : (n seed : ℕ) (end : Finish) (cs : List PlainClass) → All (λ (x : PlainClass). x.tally.runs ≤ n) cs → All (λ (x : PlainClass). x.tally.runs ≤ n + 1) (classed seed end cs)
-few_classed n seed end [] few = All-cons (λ (x : PlainClass). x.tally.runs ≤ n + 1) _ [] (omega arith) (All-nil (λ (x : PlainClass). x.tally.runs ≤ n + 1))
+few_classed : (n seed : ℕ) (end : Finish) (cs : List PlainClass) → All (λ (x : PlainClass). x.summary.runs ≤ n) cs → All (λ (x : PlainClass). x.summary.runs ≤ n + 1) (classed seed end cs)
+few_classed n seed end [] few = All-cons (λ (x : PlainClass). x.summary.runs ≤ n + 1) _ [] (omega arith) (All-nil (λ (x : PlainClass). x.summary.runs ≤ n + 1))
 few_classed n seed end (c ∷ cs) few =
-    let P : PlainClass → Type 0 = λ x. x.tally.runs ≤ n in
+    let P : PlainClass → Type 0 = λ x. x.summary.runs ≤ n in
     let rest = All-tail P c cs few in
     few_if (alike end.details c.details) n end c cs (classed seed end cs) (All-head P c cs few)
-    (All-weaker P (λ (x : PlainClass). x.tally.runs ≤ n + 1) (λ x h. omega arith) cs rest) (few_classed n seed end cs rest)
+    (All-weaker P (λ (x : PlainClass). x.summary.runs ≤ n + 1) (λ x h. omega arith) cs rest) (few_classed n seed end cs rest)
 
 few_all : (n seed : ℕ) (ends : List Finish) (cs : List PlainClass) (m : ℕ) → m ≡ n + length ends
-    → All (λ (x : PlainClass). x.tally.runs ≤ n) cs
-    → All (λ (x : PlainClass). x.tally.runs ≤ m) (classed_all seed ends cs)
-few_all n seed [] cs m at few = All-weaker (λ (x : PlainClass). x.tally.runs ≤ n) (λ (x : PlainClass). x.tally.runs ≤ m) (λ x h. omega (arith, at, h)) cs few
+    → All (λ (x : PlainClass). x.summary.runs ≤ n) cs
+    → All (λ (x : PlainClass). x.summary.runs ≤ m) (classed_all seed ends cs)
+few_all n seed [] cs m at few = All-weaker (λ (x : PlainClass). x.summary.runs ≤ n) (λ (x : PlainClass). x.summary.runs ≤ m) (λ x h. omega (arith, at, h)) cs few
 few_all n seed (e ∷ ends) cs m at few =
     let next : m ≡ (n + 1) + length ends = omega (arith, at) in
     few_all (n + 1) (suc seed) ends (classed seed e cs) m next (few_classed n seed e cs few)
 
 -- the class of most runs has no more than there were
-few_gathered : (first : ℕ) (ends : List PlainEnded) → All (λ (x : PlainClass). x.tally.runs ≤ length ends) (gathered first ends).classes
+few_gathered : (first : ℕ) (ends : List PlainEnded) → All (λ (x : PlainClass). x.summary.runs ≤ length ends) (gathered first ends).classes
 few_gathered first ends =
     let long : length (map (λ (x : PlainEnded). x.finish) ends) ≡ length ends = map_long ends in
     let many : length ends ≡ 0 + length (map (λ (x : PlainEnded). x.finish) ends) = omega (arith, long) in
-    few_all 0 first (map (λ (x : PlainEnded). x.finish) ends) [] (length ends) many (All-nil (λ (x : PlainClass). x.tally.runs ≤ 0))
+    few_all 0 first (map (λ (x : PlainEnded). x.finish) ends) [] (length ends) many (All-nil (λ (x : PlainClass). x.summary.runs ≤ 0))
 
 pub nothing_yet : (p : List (PlainItem ℕ)) (asked : Asked) (made : PlainExplored) → made ≡ nothing_made → SoFar p asked made
 nothing_yet p asked made new = record { ends = []; each = tt; none = refl; gathered_so = new }
@@ -114,12 +115,12 @@ pub as_many : (p : List (PlainItem ℕ)) (asked : Asked) (made : PlainExplored) 
 as_many p asked made so_far = ap (λ (m : PlainExplored). m.runs) so_far.gathered_so
 
 -- the runs are fewer than can be counted
-pub is_few : (p : List (PlainItem ℕ)) (asked : Asked) (m : ℕ) (made : PlainExplored) → SoFar p asked made → made.runs < m → All (λ (x : PlainClass). x.tally.runs < m) made.classes
+pub is_few : (p : List (PlainItem ℕ)) (asked : Asked) (m : ℕ) (made : PlainExplored) → SoFar p asked made → made.runs < m → All (λ (x : PlainClass). x.summary.runs < m) made.classes
 is_few p asked m made so_far h =
     let many = as_many p asked made so_far in
-    let all : All (λ (x : PlainClass). x.tally.runs ≤ length so_far.ends) made.classes =
-    subst (λ (e : PlainExplored). All (λ (x : PlainClass). x.tally.runs ≤ length so_far.ends) e.classes) (sym so_far.gathered_so) (few_gathered asked.first so_far.ends) in
-    All-weaker (λ (x : PlainClass). x.tally.runs ≤ length so_far.ends) (λ (x : PlainClass). x.tally.runs < m) (λ x g. omega (arith, g, many, h)) made.classes all
+    let all : All (λ (x : PlainClass). x.summary.runs ≤ length so_far.ends) made.classes =
+    subst (λ (e : PlainExplored). All (λ (x : PlainClass). x.summary.runs ≤ length so_far.ends) e.classes) (sym so_far.gathered_so) (few_gathered asked.first so_far.ends) in
+    All-weaker (λ (x : PlainClass). x.summary.runs ≤ length so_far.ends) (λ (x : PlainClass). x.summary.runs < m) (λ x g. omega (arith, g, many, h)) made.classes all
 
 module _ (p : List (PlainItem ℕ)) (asked : Asked) (old new : PlainExplored) (e : PlainEnded) (so_far : SoFar p asked old) (n : ℕ) (at : n ≡ asked.first + old.runs)
     (is : EndsSoBy p asked.budget asked.order asked.servers.now n e) (made : new ≡ with_ended n e old) where

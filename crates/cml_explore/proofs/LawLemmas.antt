@@ -7,11 +7,11 @@ use Rattle.std.proofs.lemmas.List.Sums.{sum_by-cons}
 use Rattle.std.proofs.lemmas.List.Elements.{All-nil, All-cons, All-head, All-tail}
 use Rattle.cml_check.specs.Syntax.{PlainItem}
 use Rattle.cml_schedule.specs.declared.item.Item.{Item}
-use Rattle.cml_explore.specs.declared.detail.Detail.{Detail}
-use Rattle.cml_explore.specs.declared.detail.Detail.TheVariants as detail
+use Rattle.cml_fault.specs.declared.detail.Detail.{Detail}
+use Rattle.cml_fault.specs.declared.detail.Detail.TheVariants as detail
 use Rattle.cml_explore.specs.declared.explored.Asked.{Asked}
-use Rattle.cml_explore.specs.Details.{same_detail, alike}
-use Rattle.cml_explore.specs.Classes.{Finish, PlainTally, PlainClass, shorter, first_run, grown, classed, classed_all}
+use Rattle.cml_fault.specs.Details.{same_detail, alike}
+use Rattle.cml_explore.specs.Classes.{Finish, PlainSummary, PlainClass, shorter, first_run, grown, classed, classed_all}
 use Rattle.cml_explore.specs.Finishes.{PlainEnded, EndsSoBy, EachEnds}
 use Rattle.cml_explore.specs.Explored.{PlainExplored, IsExplored}
 use Rattle.cml_explore.specs.Laws.{IsOneOfClass, KeepsItsOwn, CountsEachOnce}
@@ -60,7 +60,7 @@ alike_self (d ∷ ds) = ap (λ b. b && alike ds ds) (same_self d) ∙ alike_self
 
 module _ (p : List (PlainItem ℕ)) (asked : Asked) (runs : ℕ) where
   abbrev Own : PlainClass → Type 0
-  Own c = IsOneOfClass p asked runs c.details c.tally.shortest
+  Own c = IsOneOfClass p asked runs c.details c.summary.shortest
 
   -- the run is one of the class with these details
   one_of : (seed : ℕ) (e : PlainEnded) (details : List Detail) → asked.first ≤ seed → seed < asked.first + runs → EndsSoBy p asked.budget asked.order asked.servers.now seed e
@@ -84,16 +84,16 @@ module _ (p : List (PlainItem ℕ)) (asked : Asked) (runs : ℕ) where
 
   own_if : (b : Bool) (seed : ℕ) (e : PlainEnded) (c : PlainClass) (cs rest : List PlainClass) → asked.first ≤ seed → seed < asked.first + runs
       → EndsSoBy p asked.budget asked.order asked.servers.now seed e → alike e.finish.details c.details ≡ b → Own c → All Own cs → All Own rest
-      → All Own (if b then record c { tally = grown c.tally e.finish } ∷ cs else c ∷ rest)
+      → All Own (if b then record c { summary = grown c.summary e.finish } ∷ cs else c ∷ rest)
   own_if true seed e c cs rest from below is same here old new =
-      All-cons Own (record c { tally = grown c.tally e.finish }) cs
-      (shorter_own (nat_lt (length e.finish.items) (length c.tally.shortest)) c.details c.tally.shortest e.finish.items here (one_of seed e c.details from below is same)) old
+      All-cons Own (record c { summary = grown c.summary e.finish }) cs
+      (shorter_own (nat_lt (length e.finish.items) (length c.summary.shortest)) c.details c.summary.shortest e.finish.items here (one_of seed e c.details from below is same)) old
   own_if false seed e c cs rest from below is same here old new = All-cons Own c rest here new
 
   own_more : (seed : ℕ) (e : PlainEnded) (cs : List PlainClass) → asked.first ≤ seed → seed < asked.first + runs → EndsSoBy p asked.budget asked.order asked.servers.now seed e
       → All Own cs → All Own (classed seed e.finish cs)
   own_more seed e [] from below is all =
-      All-cons Own (record { details = e.finish.details; tally = first_run seed e.finish }) [] (one_of seed e e.finish.details from below is (alike_self e.finish.details)) (All-nil Own)
+      All-cons Own (record { details = e.finish.details; summary = first_run seed e.finish }) [] (one_of seed e e.finish.details from below is (alike_self e.finish.details)) (All-nil Own)
   own_more seed e (c ∷ cs) from below is all =
       let rest = All-tail Own c cs all in
       own_if (alike e.finish.details c.details) seed e c cs (classed seed e.finish cs) from below is refl (All-head Own c cs all) rest (own_more seed e cs from below is rest)
@@ -110,7 +110,7 @@ module _ (p : List (PlainItem ℕ)) (asked : Asked) (runs : ℕ) where
 pub keeps_its_own : KeepsItsOwn
 keeps_its_own p asked made is =
     let many : made.runs ≡ length is.ends = ap (λ (m : PlainExplored). m.runs) is.gathered_so in
-    let Keeps : PlainClass → Type 0 = λ c. IsOneOfClass p asked made.runs c.details c.tally.shortest in
+    let Keeps : PlainClass → Type 0 = λ c. IsOneOfClass p asked made.runs c.details c.summary.shortest in
     let from : asked.first ≤ asked.first = omega arith in
     let below : asked.first + length is.ends ≤ asked.first + made.runs = omega (arith, many) in
     subst (λ (cs : List PlainClass). All Keeps cs) (sym (ap (λ (m : PlainExplored). m.classes) is.gathered_so))

@@ -1,10 +1,4 @@
 pub mod ClassLemmas
-pub mod FallLemmas
-pub mod DetailLemmas
-pub mod DrawLemmas
-pub mod LotLemmas
-pub mod PriorityLemmas
-pub mod RunLemmas
 pub mod ExploreLemmas
 pub mod MergeLemmas
 pub mod JoinLemmas
@@ -12,7 +6,6 @@ pub mod PartLemmas
 pub mod PlaceLemmas
 pub mod Crossing
 pub mod SightLemmas
-pub mod AnswerLemmas
 pub mod RankLemmas
-pub mod SaidLemmas
 pub mod LawLemmas
+pub mod ToldLemmas

@@ -9,11 +9,11 @@ use Rattle.std.proofs.lemmas.List.Folds.{list_any-append}
 use Rattle.std.proofs.lemmas.List.Sums.{fold-append}
 use Rattle.cml_schedule.specs.declared.item.Item.{Item}
 use Rattle.cml_ending.proofs.OrLemmas.{or_false}
-use Rattle.cml_explore.specs.declared.detail.Detail.{Detail}
-use Rattle.cml_explore.specs.contracts.detail.DetailEq.TheImpl.Laws.{laws-law}
-use Rattle.cml_explore.specs.Details.{alike}
-use Rattle.cml_explore.specs.Classes.{Finish, PlainTally, PlainClass, with_digest, shorter, first_run, grown, classed, classed_all, classes_of}
-use Rattle.cml_explore.specs.Merges.{both_tallies, tally_alone, class_joined, classes_merged}
+use Rattle.cml_fault.specs.declared.detail.Detail.{Detail}
+use Rattle.cml_fault.specs.contracts.detail.DetailEq.TheImpl.Laws.{laws-law}
+use Rattle.cml_fault.specs.Details.{alike}
+use Rattle.cml_explore.specs.Classes.{Finish, PlainSummary, PlainClass, with_digest, shorter, first_run, grown, classed, classed_all, classes_of}
+use Rattle.cml_explore.specs.Merges.{both_summaries, summary_alone, class_joined, classes_merged}
 
 alike_laws : IsEquivalence alike
 alike_laws = lists_equiv laws-law
@@ -91,33 +91,33 @@ shorter_if false false a b c cb ba =
 
 -- ---- classes
 
-abbrev the_tally : ℕ → ℕ → ℕ → List (List ℕ) → List Item → PlainTally
-the_tally r f i os s = record { runs = r; first = f; items = i; outputs = os; shortest = s }
+abbrev the_summary : ℕ → ℕ → ℕ → List (List ℕ) → List Item → PlainSummary
+the_summary r f i os s = record { runs = r; first = f; items = i; outputs = os; shortest = s }
 
-same_tally : (r q f i : ℕ) (os ps : List (List ℕ)) (s t : List Item) → r ≡ q → os ≡ ps → s ≡ t → the_tally r f i os s ≡ the_tally q f i ps t
-same_tally r q f i os ps s t e g h = cc
+same_summary : (r q f i : ℕ) (os ps : List (List ℕ)) (s t : List Item) → r ≡ q → os ≡ ps → s ≡ t → the_summary r f i os s ≡ the_summary q f i ps t
+same_summary r q f i os ps s t e g h = cc
 
 -- what is kept of both, where the later one has one run more
-both_last : (t u : PlainTally) (e : Finish) → both_tallies t (grown u e) ≡ grown (both_tallies t u) e
+both_last : (t u : PlainSummary) (e : Finish) → both_summaries t (grown u e) ≡ grown (both_summaries t u) e
 both_last t u e =
-    same_tally _ _ _ _ _ _ _ _ (omega arith) (digest_last_if (list_any (pointwise nat_eq e.digest) u.outputs) t.outputs u.outputs e.digest refl)
+    same_summary _ _ _ _ _ _ _ _ (omega arith) (digest_last_if (list_any (pointwise nat_eq e.digest) u.outputs) t.outputs u.outputs e.digest refl)
     (shorter_if (nat_lt (length e.items) (length u.shortest)) (nat_lt (length u.shortest) (length t.shortest)) t.shortest u.shortest e.items refl refl)
 
 -- what is kept of a class by itself, which has one run more
-alone_last : (t : PlainTally) (e : Finish) → grown (tally_alone t) e ≡ tally_alone (grown t e)
-alone_last t e = same_tally _ _ _ _ _ _ _ _ refl (sym (digest_last_if (list_any (pointwise nat_eq e.digest) t.outputs) [] t.outputs e.digest refl)) refl
+alone_last : (t : PlainSummary) (e : Finish) → grown (summary_alone t) e ≡ summary_alone (grown t e)
+alone_last t e = same_summary _ _ _ _ _ _ _ _ refl (sym (digest_last_if (list_any (pointwise nat_eq e.digest) t.outputs) [] t.outputs e.digest refl)) refl
 
-abbrev the_class : List Detail → PlainTally → PlainClass
-the_class ds t = record { details = ds; tally = t }
+abbrev the_class : List Detail → PlainSummary → PlainClass
+the_class ds t = record { details = ds; summary = t }
 
 abbrev first_of : ℕ → Finish → PlainClass
 first_of n e = the_class e.details (first_run n e)
 
 abbrev grown_class : PlainClass → Finish → PlainClass
-grown_class d e = the_class d.details (grown d.tally e)
+grown_class d e = the_class d.details (grown d.summary e)
 
 abbrev both_classes : PlainClass → PlainClass → PlainClass
-both_classes c d = the_class c.details (both_tallies c.tally d.tally)
+both_classes c d = the_class c.details (both_summaries c.summary d.summary)
 
 -- a class of one run joins as the run does
 joined_first : (n : ℕ) (e : Finish) (cs : List PlainClass) → class_joined cs (first_of n e) ≡ classed n e cs
@@ -128,13 +128,13 @@ joined_grown_if : (b : Bool) (n : ℕ) (e : Finish) (d c : PlainClass) (cs : Lis
     → classed n e (class_joined cs d) ≡ class_joined cs (grown_class d e)
     → classed n e (if b then both_classes c d ∷ cs else c ∷ class_joined cs d) ≡ (if b then both_classes c (grown_class d e) ∷ cs else c ∷ class_joined cs (grown_class d e))
 joined_grown_if true n e d c cs same is rest =
-    if_same (alike e.details c.details) _ _ (alike_laws.congr e.details d.details c.details same ∙ is) ∙ ap (λ t. the_class c.details t ∷ cs) (sym (both_last c.tally d.tally e))
+    if_same (alike e.details c.details) _ _ (alike_laws.congr e.details d.details c.details same ∙ is) ∙ ap (λ t. the_class c.details t ∷ cs) (sym (both_last c.summary d.summary e))
 joined_grown_if false n e d c cs same is rest =
     if_other (alike e.details c.details) _ _ (alike_laws.congr e.details d.details c.details same ∙ is) ∙ ap (λ l. c ∷ l) rest
 
 -- one run more of a class that has joined
 joined_grown : (n : ℕ) (e : Finish) (d : PlainClass) (cs : List PlainClass) → alike e.details d.details ≡ true → classed n e (class_joined cs d) ≡ class_joined cs (grown_class d e)
-joined_grown n e d [] same = if_same (alike e.details d.details) _ _ same ∙ ap (λ t. the_class d.details t ∷ []) (alone_last d.tally e)
+joined_grown n e d [] same = if_same (alike e.details d.details) _ _ same ∙ ap (λ t. the_class d.details t ∷ []) (alone_last d.summary e)
 joined_grown n e d (c ∷ cs) same = joined_grown_if (alike d.details c.details) n e d c cs same refl (joined_grown n e d cs same)
 
 crosses_if : (a b : Bool) (n : ℕ) (e : Finish) (f c : PlainClass) (cs : List PlainClass) → alike e.details f.details ≡ false → alike e.details c.details ≡ a → alike f.details c.details ≡ b

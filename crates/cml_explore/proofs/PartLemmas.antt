@@ -1,9 +1,8 @@
 -- What a part comes to with what was made before.
 use Rattle.std.proofs.Common.{◌≡◌, inr, ℕ, zero, suc, ◌+◌, ◌-◌, ◌*◌, ◌<◌, ◌≤◌, ◌^◌, min, Bool, true, false}
-use Rattle.std.proofs.Common.{if◌then◌else◌, ◌||◌, List, [], ◌∷◌, ◌++◌, map, length, get_or, refl, sym, ap, subst}
+use Rattle.std.proofs.Common.{if◌then◌else◌, ◌||◌, List, [], ◌∷◌, ◌++◌, map, length, refl, sym, ap, subst}
 use Rattle.std.proofs.Common.{◌∙◌, arith}
 use Rattle.std.specs.Prelude.{Result, Ok, Err, IfOk}
-use Rattle.std.specs.declared.alloc.AllocError.{AllocError}
 use Rattle.std.proofs.lemmas.List.{append_assoc, length-append, length_push, map-append}
 use Rattle.std.proofs.lemmas.List.Sums.{sum_by-cons}
 use Rattle.std.proofs.Math.Nat.{add-mul}
@@ -12,23 +11,23 @@ use Rattle.cml_check.specs.Syntax.{PlainItem}
 use Rattle.cml_explore.specs.declared.explored.Asked.{Asked}
 use Rattle.cml_explore.specs.declared.share.Part.{Part}
 use Rattle.cml_explore.specs.declared.share.Round.{Round}
-use Rattle.cml_explore.specs.Details.{alike}
+use Rattle.cml_fault.specs.Details.{alike}
 use Rattle.cml_explore.specs.Classes.{Finish, PlainClass, grown, classed, classed_all, classes_of}
 use Rattle.cml_explore.specs.Finishes.{PlainEnded, is_well, stops, EachEnds}
 use Rattle.cml_explore.specs.Explored.{PlainExplored, gathered, IsExplored, SoFar}
-use Rattle.cml_explore.specs.Merges.{parts_merged, runs_of, FitBeside, StopsLast, HasPart, part_asked, AreInside, AreParts, IsRound, JoinsPart, IsAmidRound}
+use Rattle.cml_explore.specs.Merges.{parts_merged, runs_of, FitBeside, StopsLast, HasPart, part_asked, AreInside, IsRound, JoinsPart, IsAmidRound, HasJoined}
 use Rattle.cml_explore.proofs.ExploreLemmas.{map_long, as_many, same_parts}
 use Rattle.cml_explore.proofs.MergeLemmas.{merged_is}
 
 -- ---- the runs of the classes are the runs that were made
 
 counted_if : (b : Bool) (end : Finish) (c : PlainClass) (cs rest : List PlainClass) → runs_of rest ≡ runs_of cs + 1
-    → runs_of (if b then record c { tally = grown c.tally end } ∷ cs else c ∷ rest) ≡ runs_of (c ∷ cs) + 1
+    → runs_of (if b then record c { summary = grown c.summary end } ∷ cs else c ∷ rest) ≡ runs_of (c ∷ cs) + 1
 counted_if true end c cs rest more =
-    let f : PlainClass → ℕ = λ x. x.tally.runs in
-    omega (arith, sum_by-cons f (record c { tally = grown c.tally end }) cs, sum_by-cons f c cs)
+    let f : PlainClass → ℕ = λ x. x.summary.runs in
+    omega (arith, sum_by-cons f (record c { summary = grown c.summary end }) cs, sum_by-cons f c cs)
 counted_if false end c cs rest more =
-    let f : PlainClass → ℕ = λ x. x.tally.runs in
+    let f : PlainClass → ℕ = λ x. x.summary.runs in
     omega (arith, more, sum_by-cons f c rest, sum_by-cons f c cs)
 
 counted_one : (seed : ℕ) (end : Finish) (cs : List PlainClass) → runs_of (classed seed end cs) ≡ runs_of cs + 1
@@ -161,8 +160,8 @@ below_min : (a b : ℕ) → a < b → min a b ≡ a
 below_min a b h = omega (arith, h)
 
 module _ (p : List (PlainItem ℕ)) (asked : Asked) (so_far : PlainExplored) (round : Round) (is : IsRound asked so_far round) (k : ℕ) (inside : k * round.size < round.left)
-    (one : PlainExplored) (here : SoFar p asked one) (many : one.runs ≡ so_far.runs + min (k * round.size) round.left) (part : Result Part AllocError)
-    (gave : IfOk part (λ (q : Part). HasPart p (part_asked asked round k) q.stopped q.made)) where
+    (one : PlainExplored) (here : SoFar p asked one) (many : one.runs ≡ so_far.runs + min (k * round.size) round.left) (part : Part)
+    (gave : HasPart p (part_asked asked round k) part.stopped part.made) where
   abbrev own_runs : ℕ
   own_runs = min round.size (round.left - k * round.size)
 
@@ -181,36 +180,30 @@ module _ (p : List (PlainItem ℕ)) (asked : Asked) (so_far : PlainExplored) (ro
       let left = is.left in
       omega (arith, all, left)
 
-  fits_if : asked.runs < 2 ^ 64 → (r : Result Part AllocError) → IfOk r (λ (q : Part). HasPart p (part_asked asked round k) q.stopped q.made) → IfOk r (λ (q : Part). FitBeside one q.made)
-  fits_if few (Ok q) has = let all = in_asked in fits p asked (part_asked asked round k) q.stopped one q.made here has (omega (arith, all, few))
-  fits_if few (Err e) has = tt
-
   -- the runs of the part fit
-  part_fits : asked.runs < 2 ^ 64 → IfOk part (λ (q : Part). FitBeside one q.made)
-  part_fits few = fits_if few part gave
+  part_fits : asked.runs < 2 ^ 64 → FitBeside one part.made
+  part_fits few = let all = in_asked in fits p asked (part_asked asked round k) part.stopped one part.made here gave (omega (arith, all, few))
 
-  has_part : (new : PlainExplored) (b : Bool) (j : JoinsPart part one new b) → HasPart p (part_asked asked round k) b j.made.made
-  has_part new b j =
-      subst (λ (t : Bool). HasPart p (part_asked asked round k) t j.made.made) (sym j.stopped_so)
-      (subst (λ (r : Result Part AllocError). IfOk r (λ (q : Part). HasPart p (part_asked asked round k) q.stopped q.made)) j.made_so gave)
+  has_part : (new : PlainExplored) (b : Bool) → JoinsPart part one new b → HasPart p (part_asked asked round k) b part.made
+  has_part new b j = subst (λ (t : Bool). HasPart p (part_asked asked round k) t part.made) (sym j.stopped_so) gave
 
   -- the round goes on behind the part
-  part_on : (new : PlainExplored) (b : Bool) → b ≡ false → JoinsPart part one new b → SoFar p asked new × (new.runs ≡ so_far.runs + min ((k + 1) * round.size) round.left)
-  part_on new b e j =
-      let has : HasPart p (part_asked asked round k) false j.made.made = subst (λ (t : Bool). HasPart p (part_asked asked round k) t j.made.made) e (has_part new b j) in
-      let runs : new.runs ≡ one.runs + j.made.made.runs = ap (λ (m : PlainExplored). m.runs) j.merged in
-      let own : j.made.made.runs ≡ own_runs = has.1 in
+  part_on : (new : PlainExplored) → JoinsPart part one new false → SoFar p asked new × (new.runs ≡ so_far.runs + min ((k + 1) * round.size) round.left)
+  part_on new j =
+      let has : HasPart p (part_asked asked round k) false part.made = has_part new false j in
+      let runs : new.runs ≡ one.runs + part.made.runs = ap (λ (m : PlainExplored). m.runs) j.merged in
+      let own : part.made.runs ≡ own_runs = has.1 in
       let all = in_all in
-      (subst (SoFar p asked) (sym j.merged) (joined_on p asked one j.made.made here (round.first + k * round.size) own_runs at_part has.0), omega (arith, runs, own, all))
+      (subst (SoFar p asked) (sym j.merged) (joined_on p asked one part.made here (round.first + k * round.size) own_runs at_part has.0), omega (arith, runs, own, all))
 
   -- or it ends with it
-  part_last : (new : PlainExplored) (b : Bool) → b ≡ true → JoinsPart part one new b → IsExplored p asked new × (so_far.runs < new.runs)
-  part_last new b e j =
-      let has : HasPart p (part_asked asked round k) true j.made.made = subst (λ (t : Bool). HasPart p (part_asked asked round k) t j.made.made) e (has_part new b j) in
-      let runs : new.runs ≡ one.runs + j.made.made.runs = ap (λ (m : PlainExplored). m.runs) j.merged in
-      let own : j.made.made.runs ≡ length (has.before ++ has.last ∷ []) = ap (λ (m : PlainExplored). m.runs) has.gathered_so in
+  part_last : (new : PlainExplored) → JoinsPart part one new true → IsExplored p asked new × (so_far.runs < new.runs)
+  part_last new j =
+      let has : HasPart p (part_asked asked round k) true part.made = has_part new true j in
+      let runs : new.runs ≡ one.runs + part.made.runs = ap (λ (m : PlainExplored). m.runs) j.merged in
+      let own : part.made.runs ≡ length (has.before ++ has.last ∷ []) = ap (λ (m : PlainExplored). m.runs) has.gathered_so in
       let one_more = length_push has.before has.last in
-      (subst (IsExplored p asked) (sym j.merged) (joined_last p asked one j.made.made here (round.first + k * round.size) own_runs at_part has in_asked), omega (arith, runs, own, one_more, many))
+      (subst (IsExplored p asked) (sym j.merged) (joined_last p asked one part.made here (round.first + k * round.size) own_runs at_part has in_asked), omega (arith, runs, own, one_more, many))
 
 -- all parts were joined
 round_made : (p : List (PlainItem ℕ)) (asked : Asked) (so_far : PlainExplored) (round : Round) (count : ℕ)
@@ -224,48 +217,36 @@ round_made p asked so_far round (suc n) made is some left here many =
     (omega (arith, many, size, left, more), omega (arith, many, all))
 
 -- no part has come yet
-pub round_begins : (p : List (PlainItem ℕ)) (asked : Asked) (so_far : PlainExplored) (round : Round) (count : ℕ)
-    (parts all : List (Result Part AllocError)) (made : PlainExplored) → IsRound asked so_far round
-    → AreInside round count
-    → AreParts p asked round count parts → length parts ≡ count → all ≡ parts → SoFar p asked made → made.runs ≡ so_far.runs → IsAmidRound p asked so_far count all 0 made
-round_begins p asked so_far round count parts all made is inside are long same here many = record {
-  round = round;
+pub round_begins : (p : List (PlainItem ℕ)) (asked : Asked) (so_far : PlainExplored) (round : Round) (count : ℕ) (made : PlainExplored) → IsRound asked so_far round → AreInside round count
+    → SoFar p asked made × (made.runs ≡ so_far.runs) → IsAmidRound p asked so_far round count 0 made
+round_begins p asked so_far round count made is inside here = record {
   is = is;
   inside = inside;
-  are = subst (λ l. AreParts p asked round count l) (sym same) are;
-  long = ap length same ∙ long;
-  here = here;
-  many = omega (arith, many);
+  here = here.0;
+  many = let same = here.1 in omega (arith, same);
 }
 
-module _ (p : List (PlainItem ℕ)) (asked : Asked) (so_far : PlainExplored) (count : ℕ)
-    (parts : List (Result Part AllocError)) (k : ℕ) (made : PlainExplored)
-    (amid : IsAmidRound p asked so_far count parts k made)
-    (part : Result Part AllocError) (at : part ≡ get_or parts k part) (lt : k < length parts) where
-  few : k < count
-  few = let long = amid.long in omega (arith, long, lt)
+module _ (p : List (PlainItem ℕ)) (asked : Asked) (so_far : PlainExplored) (round : Round) (count k : ℕ) (made : PlainExplored)
+    (amid : IsAmidRound p asked so_far round count k made) (lt : k < count) (part : Part)
+    (gave : HasPart p (part_asked asked round k) part.stopped part.made) where
+  pub next_fits : asked.runs < 2 ^ 64 → FitBeside made part.made
+  next_fits small = part_fits p asked so_far round amid.is k (amid.inside k lt) made amid.here amid.many part gave small
 
-  gave : IfOk part (λ (q : Part). HasPart p (part_asked asked amid.round k) q.stopped q.made)
-  gave = subst (λ (r : Result Part AllocError). IfOk r (λ (q : Part). HasPart p (part_asked asked amid.round k) q.stopped q.made)) (sym at) (amid.are k part few)
+  next_joined : (b : Bool) (new : PlainExplored) → JoinsPart part made new b → HasJoined p asked so_far round count (k + 1) b new
+  next_joined true new j = part_last p asked so_far round amid.is k (amid.inside k lt) made amid.here amid.many part gave new j
+  next_joined false new j =
+      let on = part_on p asked so_far round amid.is k (amid.inside k lt) made amid.here amid.many part gave new j in
+      record { is = amid.is; inside = amid.inside; here = on.0; many = on.1 }
 
-  pub next_fits : asked.runs < 2 ^ 64 → IfOk part (λ (q : Part). FitBeside made q.made)
-  next_fits small = part_fits p asked so_far amid.round amid.is k (amid.inside k few) made amid.here amid.many part gave small
-
-  pub next_on : (new : PlainExplored) (b : Bool) → b ≡ false → JoinsPart part made new b → IsAmidRound p asked so_far count parts (k + 1) new
-  next_on new b e j =
-      let on = part_on p asked so_far amid.round amid.is k (amid.inside k few) made amid.here amid.many part gave new b e j in
-      record { round = amid.round; is = amid.is; inside = amid.inside; are = amid.are; long = amid.long; here = on.0; many = on.1 }
-
-  pub next_last : (new : PlainExplored) (b : Bool) → b ≡ true → JoinsPart part made new b → IsExplored p asked new × (so_far.runs < new.runs)
-  next_last new b e j = part_last p asked so_far amid.round amid.is k (amid.inside k few) made amid.here amid.many part gave new b e j
+  -- the part has come, if memory was enough
+  pub next_ok : {E : Type 0} (r : Result Bool E) (new : PlainExplored) → IfOk r (λ b. JoinsPart part made new b) → IfOk r (λ b. HasJoined p asked so_far round count (k + 1) b new)
+  next_ok (Ok b) new j = next_joined b new j
+  next_ok (Err e) new j = tt
 
 -- all parts have come
-pub round_ends : (p : List (PlainItem ℕ)) (asked : Asked) (so_far : PlainExplored) (count : ℕ)
-    (parts : List (Result Part AllocError)) (k : ℕ) (made : PlainExplored)
-    → IsAmidRound p asked so_far count parts k made → k ≡ length parts → 0 < count
-    → so_far.runs < asked.runs → (so_far.runs < made.runs) × (made.runs ≤ asked.runs)
-round_ends p asked so_far count parts k made amid all some more =
+pub round_ends : (p : List (PlainItem ℕ)) (asked : Asked) (so_far : PlainExplored) (round : Round) (count : ℕ) (made : PlainExplored)
+    → IsAmidRound p asked so_far round count count made → 0 < count → so_far.runs < asked.runs → (so_far.runs < made.runs) × (made.runs ≤ asked.runs)
+round_ends p asked so_far round count made amid some more =
     let left = amid.is.left in
-    let there : 0 < amid.round.left = omega (arith, left, more) in
-    let same : k ≡ count = all ∙ amid.long in
-    round_made p asked so_far amid.round count made amid.is some there amid.here (subst (λ n. made.runs ≡ so_far.runs + min (n * amid.round.size) amid.round.left) same amid.many)
+    let there : 0 < round.left = omega (arith, left, more) in
+    round_made p asked so_far round count made amid.is some there amid.here amid.many

@@ -1,15 +1,14 @@
--- The lines of threads.
-use Rattle.std.proofs.Common.{◌≡◌, ℕ, suc, ◌+◌, ◌<◌, ◌≤◌, List, [], ◌∷◌, ◌++◌, length, get_or, drop, Option, Some, None, inl, inr, refl, sym, ap, subst, ◌∙◌, arith, append_assoc, append-nil, add-one}
-use Rattle.std.specs.Prelude.{slice_get, if◌then◌else◌, codes, Result, Ok, Err, OnOk}
-use Rattle.std.specs.Result.{is_ok}
+-- The threads of a run that has ended.
+use Rattle.std.proofs.Common.{◌≡◌, ℕ, suc, ◌+◌, ◌<◌, ◌≤◌, List, [], ◌∷◌, ◌++◌, length, Option, None, inl, inr, refl, sym, ap, subst, ◌∙◌, arith}
+use Rattle.std.specs.Prelude.{Vec, Result, Ok, Err, IfOk, OnOk, Some, option_map, slice_get}
+use Rattle.std.specs.Option.{option_to_list}
+use Rattle.std.specs.declared.alloc.Global.{Global}
 use Rattle.std.proofs.lemmas.Bool.{cases_lt}
 use Rattle.std.proofs.lemmas.List.{get_or_append_left, get_or_push}
-use Rattle.cml_text.specs.Forms.{PlainSexpr}
 use Rattle.cml_check.specs.Syntax.{PlainItem}
 use Rattle.cml_step.specs.Calls.{text_of}
-use Rattle.cml_step.specs.Machines.{PlainHeld, PlainMachine}
-use Rattle.cml_step.specs.Asks.{PlainAsk}
-use Rattle.cml_reason.specs.Reasons.{reason_words}
+use Rattle.cml_step.specs.Machines.{PlainHeld}
+use Rattle.cml_scan.specs.World.{PlainThread}
 use Rattle.cml_hub.specs.Courses.{PlainCourse}
 use Rattle.cml_hub.specs.Deeds.{origins}
 use Rattle.cml_phrase.specs.declared.place.Place.{Place}
@@ -17,13 +16,20 @@ use Rattle.cml_ending.specs.declared.standing.Spot.{Spot}
 use Rattle.cml_ending.specs.declared.takers.Takers.{Takers}
 use Rattle.cml_ending.specs.Takes.{takes_of, last_taker, taker_in, KnowsTakers}
 use Rattle.cml_ending.specs.Standings.{IsSpotOf, spot_at}
+use Rattle.cml_ending.specs.Lefts.{stands_of}
 use Rattle.cml_ending.proofs.ThreadLemmas.{IsMade}
-use Rattle.cml_explore.specs.Answers.{LeftBy}
-use Rattle.cml_explore.specs.Falls.{PlainFall, AreFalls}
-use Rattle.cml_explore.specs.ThreadLines.{Sight, sight_of, AreSpotsToTell, thread_stand, fall_left, left_line, all_left}
+use Rattle.cml_fault.specs.Falls.{PlainFall, AreFalls}
+use Rattle.cml_explore.specs.declared.told.ThreadLeft.{ThreadLeft}
+use Rattle.cml_explore.specs.declared.told.ThreadState.{ThreadState}
+use Rattle.cml_explore.specs.Sights.{Sight, AreSpotsToTell, fault_state, state_or_fault, state_told, thread_left, thread_told, threads_told}
+use Rattle.cml_explore.specs.Told.{AreThreadsTold}
 
-pub left_made : (s : Sight) → IsMade (left_line s) (all_left s)
-left_made s = record { none = λ i. refl; more = λ i t threads. refl }
+-- what is told of a thread
+abbrev pub of_thread : Sight → ℕ → PlainThread → List ThreadLeft
+of_thread s t thread = option_to_list (thread_told s t thread)
+
+pub threads_made : (s : Sight) → IsMade (of_thread s) (threads_told s)
+threads_made s = record { none = λ i. refl; more = λ i t threads. refl }
 
 -- one spot more
 pub spot_more : (p : List (PlainItem ℕ)) (call : ℕ → Option PlainHeld) (spots : List (Option Spot)) (spot : Option Spot) (n : ℕ) → length spots ≡ n → IsSpotOf p (call n) spot
@@ -36,48 +42,46 @@ spot_more p call spots spot n many is so_far t h =
           subst (λ k. IsSpotOf p (call k) (spot_at (spots ++ spot ∷ []) k)) e (subst (λ s. IsSpotOf p (call n) s) (sym (get_or_push spots spot None n many)) is)
     ]
 
-same_takers : (p : PlainCourse) (takers : Takers) → KnowsTakers (text_of p.program) p.items takers → taker_in takers ≡ last_taker (takes_of (text_of p.program) p.items)
-same_takers p takers knows = λ i m. knows m i
+-- a thread that has ended is told of as its fault is
+pub not_left : {E : Type 0} (r : Result (Option ThreadState) E) (s : Sight) (i : ℕ) (threads : List PlainThread)
+    → ((t : PlainThread) → slice_get threads i ≡ Some t → None ≡ stands_of s.world s.began s.taker t) → IfOk r (λ state. state ≡ fault_state s (s.falls i))
+    → IfOk r (λ state. (t : PlainThread) → slice_get threads i ≡ Some t → state ≡ state_told s i t)
+not_left (Ok state) s i threads none is = λ t at. is ∙ ap (state_or_fault s i) (none t at)
+not_left (Err e) s i threads none is = tt
 
--- the lines of the threads of a run
-pub left_by : {T E : Type 0} (r : Result T E) (forms : List PlainSexpr) (places : List (List Place)) (c : PlainCourse)
-    (takers : Takers) (falls : ℕ → Option PlainFall) (spots : List (Option Spot)) (old new : List ℕ)
+-- a thread in this state was appended
+pub told_so : {T E : Type 0} (r : Result T E) (s : Sight) (i : ℕ) (threads : List PlainThread) (old new : List ThreadLeft) (state : Option ThreadState)
+    → ((t : PlainThread) → slice_get threads i ≡ Some t → state ≡ state_told s i t) → OnOk r (new ≡ old ++ option_to_list (option_map (thread_left s i) state))
+    → OnOk r ((t : PlainThread) → slice_get threads i ≡ Some t → new ≡ old ++ option_to_list (thread_told s i t))
+told_so (Ok x) s i threads old new state is more = λ t at. more ∙ ap (λ (k : Option ThreadState). old ++ option_to_list (option_map (thread_left s i) k)) (is t at)
+told_so (Err e) s i threads old new state is more = tt
+
+same_takers : (c : PlainCourse) (takers : Takers) → KnowsTakers (text_of c.program) c.items takers → taker_in takers ≡ last_taker (takes_of (text_of c.program) c.items)
+same_takers c takers knows = λ i m. knows m i
+
+-- the sight of a run whose takers are these
+abbrev seen_with : List (List Place) → PlainCourse → (ℕ → Option PlainFall) → List (Option Spot) → (ℕ → Option ℕ) → Sight
+seen_with places c falls spots taker = record {
+  places = places;
+  program = c.program;
+  world = c.world;
+  began = origins (text_of c.program) c.items;
+  taker = taker;
+  falls = falls;
+  spots = spots;
+}
+
+-- the threads of a run
+pub threads_seen : {E : Type 0} (r : Result (Vec ThreadLeft Global) E) (places : List (List Place)) (c : PlainCourse)
+    (takers : Takers) (falls : ℕ → Option PlainFall) (spots : List (Option Spot))
     → KnowsTakers (text_of c.program) c.items takers → AreFalls c.program c.items falls → AreSpotsToTell c falls spots
-    → OnOk r (new ≡ old ++ all_left (record {
-      forms = forms;
-      places = places;
-      program = c.program;
-      world = c.world;
-      began = origins (text_of c.program) c.items;
-      taker = taker_in takers;
-      falls = falls;
-      spots = spots;
-    }) 0 c.world.threads) → OnOk r (LeftBy forms places c old new)
-left_by (Ok x) forms places c takers falls spots old new knows are stands e = (
-  all_left (sight_of forms places c falls spots) 0 c.world.threads,
-  record { falls = falls; are = are; spots = spots; stands = stands; lines_are = refl },
-  e ∙ ap (λ (taker : ℕ → Option ℕ). old ++ all_left (record (sight_of forms places c falls spots) { taker = taker }) 0 c.world.threads) (same_takers c takers knows),
-)
-left_by (Err y) forms places c takers falls spots old new knows are stands e = tt
-
--- what was written, if memory was enough
-pub written : {T E : Type 0} (r : Result T E) (n a b : List ℕ) → n ≡ (if is_ok r then a else b) → OnOk r (n ≡ a)
-written (Ok x) n a b e = e
-written (Err y) n a b e = tt
-
--- the line of a thread that ended at a fault, by its parts
-pub fallen_so : {T E : Type 0} (r : Result T E) (s : Sight) (t : ℕ) (m : PlainMachine) (a : PlainAsk) (q : List (PlainItem ℕ)) (o x y z n : List ℕ) → x ≡ o ++ thread_stand s t
-    → y ≡ x ++ codes " ends at a fault: " → q ≡ s.program → z ≡ y ++ reason_words q m a → OnOk r (n ≡ z ++ 10 ∷ []) → OnOk r (n ≡ o ++ fall_left s t (Some (record { machine = m; ask = a })))
-fallen_so (Ok k) s t m a q o x y z n stands says same why ends =
-    let who : List ℕ = thread_stand s t in
-    let words : List ℕ = codes " ends at a fault: " in
-    let reason : List ℕ = reason_words s.program m a in
-    let line : List ℕ = 10 ∷ [] in
-    let z_is : z ≡ y ++ reason = why ∙ ap (λ p. y ++ reason_words p m a) same in
-    ends
-    ∙ (ap (λ l. l ++ line) z_is
-    ∙ (append_assoc y reason line
-    ∙ (ap (λ l. l ++ (reason ++ line)) says
-    ∙ (append_assoc x words (reason ++ line)
-    ∙ (ap (λ l. l ++ (words ++ (reason ++ line))) stands ∙ append_assoc o who (words ++ (reason ++ line)))))))
-fallen_so (Err y) s t m a q o x y2 z n stands says same why ends = tt
+    → IfOk r (λ threads. threads.items ≡ threads_told (seen_with places c falls spots (taker_in takers)) 0 c.world.threads)
+    → IfOk r (λ threads. AreThreadsTold places c threads.items)
+threads_seen (Ok threads) places c takers falls spots knows are stands e = record {
+  falls = falls;
+  are = are;
+  spots = spots;
+  stands = stands;
+  threads_are = e ∙ ap (λ (taker : ℕ → Option ℕ). threads_told (seen_with places c falls spots taker) 0 c.world.threads) (same_takers c takers knows);
+}
+threads_seen (Err y) places c takers falls spots knows are stands e = tt

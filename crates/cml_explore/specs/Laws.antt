@@ -4,11 +4,11 @@ use Rattle.std.specs.List.{All}
 use Rattle.cml_check.specs.Syntax.{PlainItem}
 use Rattle.cml_schedule.specs.declared.item.Item.{Item}
 use Rattle.cml_hub.specs.Kept.{Kept}
-use Rattle.cml_explore.specs.declared.detail.Detail.{Detail}
+use Rattle.cml_fault.specs.declared.detail.Detail.{Detail}
 use Rattle.cml_explore.specs.declared.explored.Asked.{Asked}
-use Rattle.cml_explore.specs.Details.{AreDetails, alike}
+use Rattle.cml_fault.specs.Details.{AreDetails, alike}
 use Rattle.cml_explore.specs.Classes.{PlainClass}
-use Rattle.cml_explore.specs.Finishes.{IsSeedRun}
+use Rattle.cml_seed.specs.SeedRuns.{IsSeedRun}
 use Rattle.cml_explore.specs.Explored.{PlainExplored, IsExplored}
 
 -- This is the schedule of the run by one of so many seeds, which ended as the runs of a class did that have these details.
@@ -26,8 +26,8 @@ pub record IsOneOfClass (p : List (PlainItem ℕ)) (asked : Asked) (runs : ℕ) 
 -- The schedule that is kept of a class is that of one of its runs.
 abbrev pub KeepsItsOwn : Type 0
 KeepsItsOwn =
-    (p : List (PlainItem ℕ)) (asked : Asked) (made : PlainExplored) → IsExplored p asked made → All (λ c. IsOneOfClass p asked made.runs c.details c.tally.shortest) made.classes
+    (p : List (PlainItem ℕ)) (asked : Asked) (made : PlainExplored) → IsExplored p asked made → All (λ c. IsOneOfClass p asked made.runs c.details c.summary.shortest) made.classes
 
 -- Each run counts once.
 abbrev pub CountsEachOnce : Type 0
-CountsEachOnce = (p : List (PlainItem ℕ)) (asked : Asked) (made : PlainExplored) → IsExplored p asked made → sum_by (λ c. c.tally.runs) made.classes ≡ made.runs
+CountsEachOnce = (p : List (PlainItem ℕ)) (asked : Asked) (made : PlainExplored) → IsExplored p asked made → sum_by (λ c. c.summary.runs) made.classes ≡ made.runs

@@ -13,7 +13,7 @@ Rank = Reverse ℕ × ℕ
 -- those of these classes, of which the first has this number
 abbrev pub ranks_from : ℕ → List PlainClass → List Rank
 ranks_from k [] = []
-ranks_from k (c ∷ cs) = (record { 0 = c.tally.runs }, k) ∷ ranks_from (suc k) cs
+ranks_from k (c ∷ cs) = (record { 0 = c.summary.runs }, k) ∷ ranks_from (suc k) cs
 
 -- the class with more runs comes first; of two that have as many the one with the lesser number, whose first seed is the lesser one
 abbrev pub by_size : Rank → Rank → Ordering

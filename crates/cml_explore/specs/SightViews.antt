@@ -4,12 +4,11 @@ use Rattle.cml_step.specs.Calls.{text_of}
 use Rattle.cml_hub.specs.Deeds.{origins}
 use Rattle.cml_ending.specs.Takes.{taker_in}
 use Rattle.cml_explore.specs.declared.sight.Sighted.{Sighted}
-use Rattle.cml_explore.specs.FallViews.{fall_in}
-use Rattle.cml_explore.specs.ThreadLines.{Sight}
+use Rattle.cml_fault.specs.FallViews.{fall_in}
+use Rattle.cml_explore.specs.Sights.{Sight}
 
 abbrev pub plain_sight : Sighted → Sight
 plain_sight s = record {
-  forms = s.forms.now;
   places = map (λ own. own.items) s.places.now;
   program = s.hub.now.course.program;
   world = s.hub.now.course.world;

@@ -1,11 +1,12 @@
 //! Runs in classes of those that ended alike.
 
 ghost use Rattle.std.specs.{Prelude.{◌≡◌, ◌<◌, ◌+◌, ◌^◌, ◌++◌, ◌∷◌, ◌==◌, false, [], OnOk, OnErr, Some, map, length, slice_get}, List.{All, list_any}};
-ghost use Rattle.cml_explore.specs.{Details.{alike}, ClassViews.{plain_class}, Merges.{runs_of, class_joined, classes_merged}};
+ghost use Rattle.cml_fault.specs.Details.{alike};
+ghost use Rattle.cml_explore.specs.{ClassViews.{plain_class}, Merges.{runs_of, class_joined, classes_merged}};
 ghost use Rattle.cml_explore.specs.Classes as spec;
 
-use crate::detail::Detail;
-use crate::tally::Tally;
+use crate::summary::Summary;
+use cml_fault::Detail;
 use cml_hub::Item;
 use indexmap::IndexSet;
 use std::alloc::{AllocError, Global};
@@ -17,14 +18,13 @@ pub struct Class<'a> {
     /// How they ended.
     pub details: &'a [Detail],
     /// What is kept of them.
-    pub tally: &'a Tally,
+    pub summary: &'a Summary,
 }
 
 /// Runs in classes of those that ended alike. What it takes of memory grows with the classes and the different outputs alone.
-#[derive(Drop)]
 pub struct Classes {
     details: IndexSet<Vec<Detail>>,
-    tallies: Vec<Tally>,
+    summaries: Vec<Summary>,
 }
 
 impl Model for Classes {
@@ -33,26 +33,35 @@ impl Model for Classes {
 
     ghost Value = { List PlainClass };
 
-    ghost view = { λ c. with_details (map (λ d. d.items) c.details.keys) c.tallies.items };
+    ghost view = { λ c. with_details (map (λ d. d.items) c.details.keys) c.summaries.items };
 
-    ghost invariant = { λ c. length c.details.keys ≡ length c.tallies.items };
+    ghost invariant = { λ c. length c.details.keys ≡ length c.summaries.items };
+}
+
+// Written out, so that how the parts are dropped is proved once, and whoever drops classes calls this.
+impl Drop for Classes {
+    fn drop(self) {
+        let Classes { details, summaries } = self;
+        drop(details);
+        drop(summaries);
+    }
 }
 
 // A class more, of these details, which none has.
 fn push_class(
     known: &mut IndexSet<Vec<Detail>>,
-    tallies: &mut Vec<Tally>,
+    summaries: &mut Vec<Summary>,
     details: Vec<Detail>,
-    tally: Tally,
+    summary: Summary,
 ) -> Result<(), AllocError>
     requires { list_any (λ d. alike details.items d.items) known.old.keys ≡ false }
     ensures known { OnOk result (map (λ d. d.items) known.new.keys ≡ map (λ d. d.items) known.old.keys ++ details.items ∷ []) }
-    ensures tallies { OnOk result (tallies.new.items ≡ tallies.old.items ++ tally ∷ []) }
-    ensures err { OnErr result ((known.new.keys ≡ known.old.keys) × (tallies.new.items ≡ tallies.old.items)) }
+    ensures summaries { OnOk result (summaries.new.items ≡ summaries.old.items ++ summary ∷ []) }
+    ensures err { OnErr result ((known.new.keys ≡ known.old.keys) × (summaries.new.items ≡ summaries.old.items)) }
 {
-    tallies.reserve(1)?;
+    summaries.reserve(1)?;
     known.insert(details)?;
-    tallies.push_reserved(tally);
+    summaries.push_reserved(summary);
     Ok(())
 }
 
@@ -61,7 +70,7 @@ fn push_class(
 fn begin_class(
     alloc: Global,
     known: &mut IndexSet<Vec<Detail>>,
-    tallies: &mut Vec<Tally>,
+    summaries: &mut Vec<Summary>,
     seed: u64,
     details: Vec<Detail>,
     digest: [u8; 32],
@@ -69,12 +78,12 @@ fn begin_class(
 ) -> Result<(), AllocError>
     requires { list_any (λ d. alike details.items d.items) known.old.keys ≡ false }
     ensures known { OnOk result (map (λ d. d.items) known.new.keys ≡ map (λ d. d.items) known.old.keys ++ details.items ∷ []) }
-    ensures tallies { OnOk result (tallies.new.items ≡ tallies.old.items
+    ensures summaries { OnOk result (summaries.new.items ≡ summaries.old.items
         ++ spec.first_run seed (record { details = details.items; digest = digest; items = items.now }) ∷ []) }
-    ensures err { OnErr result ((known.new.keys ≡ known.old.keys) × (tallies.new.items ≡ tallies.old.items)) }
+    ensures err { OnErr result ((known.new.keys ≡ known.old.keys) × (summaries.new.items ≡ summaries.old.items)) }
 {
-    let tally = Tally::new(alloc, seed, digest, items)?;
-    push_class(known, tallies, details, tally)
+    let summary = Summary::new(alloc, seed, digest, items)?;
+    push_class(known, summaries, details, summary)
 }
 
 impl Classes {
@@ -84,7 +93,7 @@ impl Classes {
     {
         Classes {
             details: IndexSet::new(alloc),
-            tallies: Vec::new(alloc),
+            summaries: Vec::new(alloc),
         }
     }
 
@@ -92,14 +101,14 @@ impl Classes {
     pub fn len(&self) -> usize
         ensures { result ≡ length self.now }
     {
-        self.tallies.len()
+        self.summaries.len()
     }
 
     /// Whether there is none.
     pub fn is_empty(&self) -> bool
         ensures { result ≡ (length self.now == 0) }
     {
-        self.tallies.is_empty()
+        self.summaries.is_empty()
     }
 
     /// The class of this number; they are numbered from 0 in the order of their first seeds.
@@ -110,7 +119,7 @@ impl Classes {
         match self.details.get_index(number) {
             Some(details) => Class {
                 details: details.as_slice(),
-                tally: &self.tallies[number],
+                summary: &self.summaries[number],
             },
             None => unreachable!(),
         }
@@ -120,15 +129,15 @@ impl Classes {
     //
     // On `Err` nothing is known of the classes: the caller lets them go.
     fn absorb_class(&mut self, alloc: Global, class: Class<'_>) -> Result<(), AllocError>
-        requires { All (λ c. c.tally.runs + class.tally.now.runs < 2 ^ 64) self.old }
+        requires { All (λ c. c.summary.runs + class.summary.now.runs < 2 ^ 64) self.old }
         ensures { OnOk result (self.new ≡ class_joined self.old (plain_class class.entry)) }
     {
         let details = Vec::from_slice(alloc, class.details)?;
         match self.details.get_index_of(&details) {
-            Some(known) => self.tallies[known].absorb(alloc, class.tally),
+            Some(known) => self.summaries[known].absorb(class.summary),
             None => {
-                let tally = class.tally.copy(alloc)?;
-                push_class(&mut self.details, &mut self.tallies, details, tally)
+                let summary = class.summary.copy(alloc)?;
+                push_class(&mut self.details, &mut self.summaries, details, summary)
             }
         }
     }
@@ -155,16 +164,16 @@ impl Classes {
         digest: [u8; 32],
         items: &[Item],
     ) -> Result<(), AllocError>
-        requires { All (λ c. c.tally.runs < u64.MAX) self.old }
+        requires { All (λ c. c.summary.runs < u64.MAX) self.old }
         ensures ok { OnOk result (self.new ≡ spec.classed seed (record { details = details.items; digest = digest; items = items.now }) self.old) }
         ensures err { OnErr result (self.new ≡ self.old) }
     {
         match self.details.get_index_of(&details) {
-            Some(class) => self.tallies[class].join(alloc, digest, items),
+            Some(class) => self.summaries[class].join(digest, items),
             None => begin_class(
                 alloc,
                 &mut self.details,
-                &mut self.tallies,
+                &mut self.summaries,
                 seed,
                 details,
                 digest,

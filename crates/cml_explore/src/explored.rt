@@ -8,13 +8,12 @@ ghost use Rattle.cml_explore.specs.{Explored.{IsExplored, SoFar, HasMade, with_e
 ghost use Rattle.cml_explore.specs.Finishes as spec;
 
 use crate::classes::Classes;
-use crate::details::details_of;
 use crate::finish::{Fate, digest_of, fate_of};
-use crate::order::Order;
-use crate::run::seed_run;
 use cml_check::Prog;
 use cml_ending::let_go;
+use cml_fault::details_of;
 use cml_hub::{End, Hub};
+use cml_seed::{Order, seed_run};
 use std::alloc::{AllocError, Global};
 use std::marker::Model;
 
@@ -116,7 +115,7 @@ impl Explored {
         seed: u64,
         hub: &Hub,
     ) -> Result<bool, AllocError>
-        requires few { All (λ c. c.tally.runs < u64.MAX) self.old.classes }
+        requires few { All (λ c. c.summary.runs < u64.MAX) self.old.classes }
         requires runs { self.old.runs < u64.MAX }
         ensures added { IfOk result (λ stops. (e : PlainEnded) × IsEndOf asked.now.servers.now hub.now e
             × (self.new ≡ with_ended seed e self.old) × (stops ≡ spec.stops asked.now.until e)) }
@@ -140,7 +139,7 @@ impl Explored {
         seed: u64,
     ) -> Result<bool, AllocError>
         requires budget { IsBudget asked.now.budget }
-        requires few { All (λ c. c.tally.runs < u64.MAX) self.old.classes }
+        requires few { All (λ c. c.summary.runs < u64.MAX) self.old.classes }
         requires runs { self.old.runs < u64.MAX }
         ensures added { IfOk result (λ stops. (e : PlainEnded) × EndsSoBy program.now asked.now.budget asked.now.order asked.now.servers.now seed e
             × (self.new ≡ with_ended seed e self.old) × (stops ≡ spec.stops asked.now.until e)) }

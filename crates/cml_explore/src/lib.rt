@@ -3,26 +3,22 @@
 
 mod answer;
 mod classes;
-mod detail;
-mod details;
 mod explored;
-mod fall;
 mod finish;
 pub mod law;
-mod lot;
-mod order;
-mod priority;
 mod rank;
-mod run;
 mod share;
 mod sight;
-mod tally;
+mod summary;
+mod tell;
+mod told;
 mod words;
 
 pub use answer::explain_runs;
 pub use classes::{Class, Classes};
-pub use detail::Detail;
-pub use details::details_of;
+pub use cml_seed::Order;
 pub use explored::{Asked, Explored, Until, explore};
-pub use order::Order;
-pub use tally::Tally;
+pub use summary::Summary;
+pub use tell::tell_runs;
+pub use told::{ClassTold, RunTold, RunsTold, ThreadLeft, ThreadState};
+pub use words::write_runs;

@@ -17,7 +17,7 @@ fn unsorted(alloc: Global, classes: &Classes) -> Result<Vec<Rank>, AllocError>
 {
     let mut ranks = Vec::new(alloc);
     for k in 0..classes.len() {
-        ranks.push((Reverse(classes.class(k).tally.runs()), k))?;
+        ranks.push((Reverse(classes.class(k).summary.runs()), k))?;
     }
     Ok(ranks)
 }

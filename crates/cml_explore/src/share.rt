@@ -1,10 +1,10 @@
 //! Runs that are shared among threads.
 
-ghost use Rattle.std.specs.{Prelude.{◌≡◌, ◌≤◌, ◌<◌, ◌+◌, ◌^◌, ℕ, List, None, Some, Ok, length, min, max, IfOk, OnOk, OnErr}, List.{All}};
+ghost use Rattle.std.specs.{Prelude.{◌≡◌, ◌≤◌, ◌<◌, ◌+◌, ◌^◌, ℕ, List, None, Some, length, min, max, IfOk, OnOk, OnErr}, List.{All}};
 ghost use Rattle.cml_check.specs.Syntax.{PlainItem};
 ghost use Rattle.cml_hub.specs.Kept.{IsBudget};
 ghost use Rattle.cml_explore.specs.{Explored.{SoFar, HasMade}, declared.explored.Asked.{Asked}, declared.share.Round.{Round}};
-ghost use Rattle.cml_explore.specs.Merges.{FitBeside, HasPart, AreInside, AreParts, ArePartsPlaced, ArePartsTaken, IsPartTaken, IsRound, JoinsPart, runs_before};
+ghost use Rattle.cml_explore.specs.Merges.{FitBeside, HasPart, HasJoined, AreInside, ArePartsPlaced, ArePartsTaken, IsAmidRound, IsPartTaken, IsRound, JoinsPart, runs_before};
 ghost use Rattle.cml_explore.specs.Merges as spec;
 
 use crate::explored::{Asked, Explored, are_all};
@@ -37,11 +37,11 @@ struct Part {
     stopped: bool,
 }
 
-// A part by its number in the round, which a thread has taken.
+// A part by its number in the round, which a thread has taken and made.
 #[derive(Drop)]
 struct Taken {
     number: usize,
-    part: Result<Part, AllocError>,
+    part: Part,
 }
 
 // The lesser of the two.
@@ -177,17 +177,14 @@ fn take_parts(
         if number >= count {
             return Ok(taken);
         }
-        let part = make_part_of(alloc, program, asked, round, number);
+        let part = make_part_of(alloc, program, asked, round, number)?;
         taken.push(Taken { number, part })?;
     }
     Ok(taken)
 }
 
 // A place for each part of a round, at which nothing lies.
-fn no_parts(
-    alloc: Global,
-    count: usize,
-) -> Result<Vec<Option<Result<Part, AllocError>>>, AllocError>
+fn no_parts(alloc: Global, count: usize) -> Result<Vec<Option<Part>>, AllocError>
     ensures long { IfOk result (λ places. length places.items ≡ count) }
     ensures none { IfOk result (λ places. All (λ place. place ≡ None) places.items) }
 {
@@ -199,7 +196,7 @@ fn no_parts(
 }
 
 // Lays a part at the place of its number.
-fn lay(places: &mut Vec<Option<Result<Part, AllocError>>>, taken: Taken)
+fn lay(places: &mut Vec<Option<Part>>, taken: Taken)
     requires { taken.number < length places.old.items }
     ensures long { length places.new.items ≡ length places.old.items }
     ensures placed { (p : List (PlainItem ℕ)) (asked : Asked) (round : Round) → IsPartTaken p asked round (length places.old.items) taken
@@ -214,7 +211,7 @@ fn lay_taken(
     program: &Prog,
     asked: &Asked<'_>,
     round: Round,
-    places: &mut Vec<Option<Result<Part, AllocError>>>,
+    places: &mut Vec<Option<Part>>,
     mut taken: Vec<Taken>,
 )
     requires taken { ArePartsTaken program.now asked.now round (length places.old.items) taken.items }
@@ -232,7 +229,7 @@ fn lay_all(
     program: &Prog,
     asked: &Asked<'_>,
     round: Round,
-    places: &mut Vec<Option<Result<Part, AllocError>>>,
+    places: &mut Vec<Option<Part>>,
     mut all: Vec<Result<Vec<Taken>, AllocError>>,
 ) -> Result<(), AllocError>
     requires taken { All (λ one. IfOk one (λ taken. ArePartsTaken program.now asked.now round (length places.old.items) taken.items)) all.items }
@@ -248,14 +245,11 @@ fn lay_all(
 }
 
 // Takes away what lies at the place of this number.
-fn lift(
-    places: &mut Vec<Option<Result<Part, AllocError>>>,
-    number: usize,
-) -> Option<Result<Part, AllocError>>
+fn lift(places: &mut Vec<Option<Part>>, number: usize) -> Option<Part>
     requires { number < length places.old.items }
     ensures long { length places.new.items ≡ length places.old.items }
     ensures part { (p : List (PlainItem ℕ)) (asked : Asked) (round : Round) → ArePartsPlaced p asked round places.old.items
-        → (part : Part) → result ≡ Some (Ok part) → HasPart p (spec.part_asked asked round number) part.stopped part.made }
+        → (part : Part) → result ≡ Some part → HasPart p (spec.part_asked asked round number) part.stopped part.made }
     ensures placed { (p : List (PlainItem ℕ)) (asked : Asked) (round : Round) → ArePartsPlaced p asked round places.old.items → ArePartsPlaced p asked round places.new.items }
 {
     places[number].take()
@@ -268,42 +262,18 @@ fn found_part(
     asked: &Asked<'_>,
     round: Round,
     number: usize,
-    found: Option<Result<Part, AllocError>>,
+    found: Option<Part>,
 ) -> Result<Part, AllocError>
     requires budget { IsBudget asked.now.budget }
     requires seeds { round.first + round.left ≤ 2 ^ 64 }
     requires inside { runs_before round number < round.left }
-    requires found { (part : Part) → found ≡ Some (Ok part) → HasPart program.now (spec.part_asked asked.now round number) part.stopped part.made }
+    requires found { (part : Part) → found ≡ Some part → HasPart program.now (spec.part_asked asked.now round number) part.stopped part.made }
     ensures { IfOk result (λ made. HasPart program.now (spec.part_asked asked.now round number) made.stopped made.made) }
 {
     match found {
-        Some(part) => part,
+        Some(part) => Ok(part),
         None => make_part_of(alloc, program, asked, round, number),
     }
-}
-
-// The parts in the order of their numbers.
-fn in_order(
-    alloc: Global,
-    program: &Prog,
-    asked: &Asked<'_>,
-    round: Round,
-    mut places: Vec<Option<Result<Part, AllocError>>>,
-) -> Result<Vec<Result<Part, AllocError>>, AllocError>
-    requires budget { IsBudget asked.now.budget }
-    requires seeds { round.first + round.left ≤ 2 ^ 64 }
-    requires inside { AreInside round (length places.items) }
-    requires placed { ArePartsPlaced program.now asked.now round places.items }
-    ensures many { IfOk result (λ parts. length parts.items ≡ length places.items) }
-    ensures parts { IfOk result (λ parts. AreParts program.now asked.now round (length places.items) parts.items) }
-{
-    let mut parts = Vec::new(alloc);
-    for number in 0..places.len() {
-        let found = lift(&mut places, number);
-        let part = found_part(alloc, program, asked, round, number, found);
-        parts.push(part)?;
-    }
-    Ok(parts)
 }
 
 // What each of so many threads makes of the parts of a round.
@@ -329,7 +299,8 @@ fn take_all<R: Threads + Sync>(
     thread::map_indices(rt, alloc, workers, &take)
 }
 
-// The parts of a round, in the order of their numbers, by so many threads, or as many as there are parts.
+// The parts of a round, each at the place of its number, by so many threads, or as many as there are parts. At the place of a part that no thread
+// has taken nothing lies.
 fn make_parts<R: Threads + Sync>(
     rt: &R,
     alloc: Global,
@@ -338,38 +309,105 @@ fn make_parts<R: Threads + Sync>(
     round: Round,
     count: usize,
     workers: usize,
-) -> Result<Vec<Result<Part, AllocError>>, AllocError>
+) -> Result<Vec<Option<Part>>, AllocError>
     requires budget { IsBudget asked.now.budget }
     requires seeds { round.first + round.left ≤ 2 ^ 64 }
     requires inside { AreInside round count }
-    ensures many { IfOk result (λ parts. length parts.items ≡ count) }
-    ensures parts { IfOk result (λ parts. AreParts program.now asked.now round count parts.items) }
+    ensures many { IfOk result (λ places. length places.items ≡ count) }
+    ensures placed { IfOk result (λ places. ArePartsPlaced program.now asked.now round places.items) }
 {
     let threads = lesser(count as u64, workers as u64) as usize;
     let all = take_all(rt, alloc, program, asked, round, count, threads)?;
     let mut places = no_parts(alloc, count)?;
     lay_all(program, asked, round, &mut places, all)?;
-    in_order(alloc, program, asked, round, places)
+    Ok(places)
 }
 
 // The runs of a part come behind those that were made. Returns whether the last of them is one at which to stop.
 //
 // On `Err` the caller lets all go.
-fn join_part(
-    made: &mut Explored,
-    alloc: Global,
-    part: &Result<Part, AllocError>,
-) -> Result<bool, AllocError>
-    requires { IfOk part.now (λ p. FitBeside made.old p.made) }
+fn join_part(made: &mut Explored, alloc: Global, part: &Part) -> Result<bool, AllocError>
+    requires { FitBeside made.old part.now.made }
     ensures { IfOk result (λ stopped. JoinsPart part.now made.old made.new stopped) }
 {
-    match part {
-        Err(_) => Err(AllocError),
-        Ok(part) => {
-            made.absorb(alloc, &part.made)?;
-            Ok(part.stopped)
+    made.absorb(alloc, &part.made)?;
+    Ok(part.stopped)
+}
+
+// The part of this number comes behind those before it, which have come behind what was made so far. Returns whether its last run is one at
+// which to stop.
+//
+// On `Err` the caller lets all go.
+fn join_next(
+    made: &mut Explored,
+    so_far: &Explored,
+    alloc: Global,
+    program: &Prog,
+    asked: &Asked<'_>,
+    round: Round,
+    places: &mut Vec<Option<Part>>,
+    number: usize,
+) -> Result<bool, AllocError>
+    requires budget { IsBudget asked.now.budget }
+    requires seeds { round.first + round.left ≤ 2 ^ 64 }
+    requires few { asked.now.runs < 2 ^ 64 }
+    requires number { number < length places.old.items }
+    requires placed { ArePartsPlaced program.now asked.now round places.old.items }
+    requires amid { IsAmidRound program.now asked.now so_far.now round (length places.old.items) number made.old }
+    ensures long { length places.new.items ≡ length places.old.items }
+    ensures placed { ArePartsPlaced program.now asked.now round places.new.items }
+    ensures joined { IfOk result (λ stopped. HasJoined program.now asked.now so_far.now round (length places.old.items) (number + 1) stopped made.new) }
+{
+    let found = lift(places, number);
+    let part = found_part(alloc, program, asked, round, number, found)?;
+    let joined = join_part(made, alloc, &part);
+    drop(part);
+    joined
+}
+
+// All parts of a round come behind what was made so far, in the order of their numbers, up to the first whose last run is one at which to stop.
+// Returns whether there is one.
+//
+// On `Err` the caller lets all go.
+fn join_all(
+    made: &mut Explored,
+    so_far: &Explored,
+    alloc: Global,
+    program: &Prog,
+    asked: &Asked<'_>,
+    round: Round,
+    places: &mut Vec<Option<Part>>,
+) -> Result<bool, AllocError>
+    requires budget { IsBudget asked.now.budget }
+    requires seeds { round.first + round.left ≤ 2 ^ 64 }
+    requires few { asked.now.runs < 2 ^ 64 }
+    requires placed { ArePartsPlaced program.now asked.now round places.old.items }
+    requires begins { IsAmidRound program.now asked.now so_far.now round (length places.old.items) 0 made.old }
+    ensures { IfOk result (λ stopped. HasJoined program.now asked.now so_far.now round (length places.old.items) (length places.old.items) stopped made.new) }
+{
+    for number in 0..places.len() {
+        let stopped = join_next(made, so_far, alloc, program, asked, round, places, number)?;
+        if stopped {
+            return Ok(true);
         }
     }
+    Ok(false)
+}
+
+// What was made so far, once more.
+fn copied(
+    alloc: Global,
+    program: &Prog,
+    asked: &Asked<'_>,
+    so_far: &Explored,
+) -> Result<Explored, AllocError>
+    requires so_far { SoFar program.now asked.now so_far.now }
+    requires few { so_far.now.runs < 2 ^ 64 }
+    ensures { IfOk result (λ copy. SoFar program.now asked.now copy × (copy.runs ≡ so_far.now.runs)) }
+{
+    let mut copy = Explored::new(alloc);
+    copy.absorb(alloc, so_far)?;
+    Ok(copy)
 }
 
 // A round more, behind what was made. What was made is copied, so it stands as it was where memory runs out.
@@ -392,15 +430,12 @@ fn go_round<R: Threads + Sync>(
     let wanted = asked.runs;
     let round = next_round(so_far, asked, workers);
     let count = part_count(round, workers);
-    let parts = make_parts(rt, alloc, program, asked, round, count, workers)?;
-    let mut made = Explored::new(alloc);
-    made.absorb(alloc, so_far)?;
-    let all = parts.as_slice();
-    for part in all {
-        let stopped = join_part(&mut made, alloc, part)?;
-        if stopped {
-            return Ok((made, true));
-        }
+    let mut places = make_parts(rt, alloc, program, asked, round, count, workers)?;
+    let mut made = copied(alloc, program, asked, so_far)?;
+    let stopped = join_all(&mut made, so_far, alloc, program, asked, round, &mut places)?;
+    drop(places);
+    if stopped {
+        return Ok((made, true));
     }
     let so_many = made.runs();
     let last = are_all(so_many, wanted);

@@ -1,27 +1,25 @@
-//! The lines of the threads that are left when a run has ended, or ended at a fault, in short.
+//! How the threads of a run are left, and where and why threads of it ended at faults.
 
-ghost use Rattle.std.specs.Prelude.{◌≡◌, ◌++◌, ◌<◌, OnOk, IfOk, Some, length, slice_get};
+ghost use Rattle.std.specs.{Prelude.{◌≡◌, ◌++◌, ◌<◌, OnOk, IfOk, Some, length, option_map, slice_get}, Option.{option_to_list}};
 ghost use Rattle.cml_scan.specs.World.{PlainThread};
 ghost use Rattle.cml_ending.specs.Standings.{IsSpotOf};
-ghost use Rattle.cml_explore.specs.{FallViews.{plain_fall, fall_in}, SightViews.{plain_sight}, ThreadLines.{AreSpotsToTell}};
-ghost use Rattle.cml_explore.specs.ThreadLines as spec;
+ghost use Rattle.cml_fault.specs.{FallViews.{plain_fall, fall_in}};
+ghost use Rattle.cml_explore.specs.{SightViews.{plain_sight}, Sights.{AreSpotsToTell}};
+ghost use Rattle.cml_explore.specs.Sights as spec;
 
-use crate::fall::{Fall, Falls};
-use cml_ending::{Spot, Takers, machine_spot, place_of, push_awaited, thread_spot, who_is};
+use crate::told::{ThreadLeft, ThreadState};
+use cml_ending::{Spot, Takers, machine_spot, place_of, stands_of, thread_spot, who_is};
+use cml_fault::{Falls, reason_of};
 use cml_hub::Hub;
-use cml_phrase::{Place, push_line, push_thread};
-use cml_reason::push_reason;
-use cml_text::Sexpr;
-use cml_value::{Group, Tid};
+use cml_phrase::Place;
+use cml_value::Tid;
 use std::alloc::{AllocError, Global};
 
-/// What is spoken of.
+/// A run that has ended, and what is known of its threads.
 #[derive(Clone, Copy)]
 pub(crate) struct Sighted<'a> {
     /// Where memory comes from.
     pub(crate) alloc: Global,
-    /// The script's forms.
-    pub(crate) forms: &'a [Sexpr],
     /// Where the statements of each function stand in the text.
     pub(crate) places: &'a [Vec<Place>],
     /// The run.
@@ -64,106 +62,82 @@ pub(crate) fn spots_of(
     Ok(spots)
 }
 
-// Appends a line and a column, if they are known.
-fn push_position(alloc: Global, out: &mut Vec<u8>, place: Option<Place>) -> Result<(), AllocError>
-    ensures { OnOk result (out.new.items ≡ out.old.items ++ spec.position_words place) }
-{
-    match place {
-        Some(place) => {
-            out.extend_from_slice(b" at ")?;
-            push_line(alloc, out, place)
-        }
-        None => Ok(()),
-    }
-}
-
 impl Sighted<'_> {
-    // Appends the thread, and where it stands.
-    fn push_stand(&self, out: &mut Vec<u8>, thread: u32) -> Result<(), AllocError>
-        ensures { OnOk result (out.new.items ≡ out.old.items ++ spec.thread_stand (plain_sight self.now) thread) }
-    {
-        out.extend_from_slice(b"       ")?;
-        push_thread(self.alloc, out, self.forms, who_is(self.hub, thread))?;
-        push_position(self.alloc, out, place_of(self.places, self.spots, thread))
-    }
-
-    // Appends the events for which a thread waits that waits on this group.
-    fn push_events(&self, out: &mut Vec<u8>, group: &Group) -> Result<(), AllocError>
-        ensures { OnOk result (out.new.items ≡ out.old.items ++ spec.events_told (plain_sight self.now) group.now) }
-    {
-        push_awaited(self.alloc, out, self.forms, self.hub, self.takers, group)
-    }
-
-    // Appends the line of a thread that waits on this group.
-    fn push_waiting(&self, out: &mut Vec<u8>, thread: u32, group: &Group) -> Result<(), AllocError>
-        ensures { OnOk result (out.new.items ≡ out.old.items ++ spec.waiting_left (plain_sight self.now) thread group.now) }
-    {
-        self.push_stand(out, thread)?;
-        out.extend_from_slice(b": ")?;
-        self.push_events(out, group)?;
-        out.extend_from_slice(b"\n")
-    }
-
-    // Appends the line of a thread that runs.
-    fn push_running(&self, out: &mut Vec<u8>, thread: u32) -> Result<(), AllocError>
-        ensures { OnOk result (out.new.items ≡ out.old.items ++ spec.running_left (plain_sight self.now) thread) }
-    {
-        self.push_stand(out, thread)?;
-        out.extend_from_slice(b" runs\n")
-    }
-
-    // Appends the line of a thread that ended at a fault.
-    fn push_fallen(&self, out: &mut Vec<u8>, thread: u32, fall: &Fall) -> Result<(), AllocError>
-        ensures { OnOk result (out.new.items ≡ out.old.items ++ spec.fall_left (plain_sight self.now) thread (Some (plain_fall fall.now))) }
-    {
-        self.push_stand(out, thread)?;
-        out.extend_from_slice(b" ends at a fault: ")?;
-        push_reason(
-            self.alloc,
-            out,
-            self.hub.program(),
-            &fall.machine,
-            &fall.ask,
-        )?;
-        out.extend_from_slice(b"\n")
-    }
-
-    // Appends the line of a thread that has ended, if it did at a fault.
-    fn push_ended(&self, out: &mut Vec<u8>, thread: u32) -> Result<(), AllocError>
-        ensures { OnOk result (out.new.items ≡ out.old.items ++ spec.fall_left (plain_sight self.now) thread (fall_in self.now.falls.now thread)) }
+    // Why the thread of this number ended at a fault, if it did.
+    fn fault_state(&self, thread: u32) -> Result<Option<ThreadState>, AllocError>
+        ensures { IfOk result (λ state. state ≡ spec.fault_state (plain_sight self.now) (fall_in self.now.falls.now thread)) }
     {
         match self.falls.of(thread) {
-            Some(fall) => self.push_fallen(out, thread, fall),
+            Some(fall) => {
+                let reason = reason_of(self.alloc, self.hub.program(), &fall.machine, &fall.ask)?;
+                Ok(Some(ThreadState::AtFault(reason)))
+            }
+            None => Ok(None),
+        }
+    }
+
+    // How the thread of this number is left, if it is, or ended at a fault.
+    fn state(&self, thread: u32) -> Result<Option<ThreadState>, AllocError>
+        ensures { IfOk result (λ state. (t : PlainThread) → slice_get self.now.hub.now.course.world.threads thread ≡ Some t →
+            state ≡ spec.state_told (plain_sight self.now) thread t) }
+    {
+        let stands = stands_of(self.alloc, self.hub, self.takers, thread)?;
+        match stands {
+            Some(stands) => Ok(Some(ThreadState::Stands(stands))),
+            None => self.fault_state(thread),
+        }
+    }
+
+    // The thread of this number, which is left so.
+    fn thread_left(&self, thread: u32, state: ThreadState) -> Result<ThreadLeft, AllocError>
+        ensures { IfOk result (λ left. left ≡ spec.thread_left (plain_sight self.now) thread state) }
+    {
+        Ok(ThreadLeft {
+            thread: who_is(self.hub, thread)?,
+            place: place_of(self.places, self.spots, thread),
+            state,
+        })
+    }
+
+    // Appends the thread of this number, if it is left so.
+    fn push_so(
+        &self,
+        threads: &mut Vec<ThreadLeft>,
+        thread: u32,
+        state: Option<ThreadState>,
+    ) -> Result<(), AllocError>
+        ensures { OnOk result (threads.new.items ≡ threads.old.items ++ option_to_list (option_map (spec.thread_left (plain_sight self.now) thread) state)) }
+    {
+        match state {
+            Some(state) => {
+                let left = self.thread_left(thread, state)?;
+                threads.push(left)?;
+                Ok(())
+            }
             None => Ok(()),
         }
     }
 
-    // Appends the line of the thread of this number, if it has one.
-    fn push_left(&self, out: &mut Vec<u8>, thread: u32) -> Result<(), AllocError>
+    // Appends the thread of this number, if it is left or ended at a fault.
+    fn push_thread(&self, threads: &mut Vec<ThreadLeft>, thread: u32) -> Result<(), AllocError>
         ensures { OnOk result ((t : PlainThread) → slice_get self.now.hub.now.course.world.threads thread ≡ Some t →
-            out.new.items ≡ out.old.items ++ spec.left_line (plain_sight self.now) thread t) }
+            threads.new.items ≡ threads.old.items ++ option_to_list (spec.thread_told (plain_sight self.now) thread t)) }
     {
-        let book = self.hub.book();
-        if book.is_running(Tid(thread)) {
-            return self.push_running(out, thread);
-        }
-        match book.waiting(Tid(thread)) {
-            Some(group) => self.push_waiting(out, thread, group),
-            None => self.push_ended(out, thread),
-        }
+        let state = self.state(thread)?;
+        self.push_so(threads, thread, state)
     }
 
-    /// Appends the lines of all threads that are left, or ended at a fault.
+    /// All threads that are left or ended at a fault.
     ///
     /// # Errors
     /// Out of memory.
-    pub(crate) fn push_all_left(&self, out: &mut Vec<u8>) -> Result<(), AllocError>
-        ensures { OnOk result (out.new.items ≡ out.old.items
-            ++ spec.all_left (plain_sight self.now) 0 self.now.hub.now.course.world.threads) }
+    pub(crate) fn threads(&self) -> Result<Vec<ThreadLeft>, AllocError>
+        ensures { IfOk result (λ threads. threads.items ≡ spec.threads_told (plain_sight self.now) 0 self.now.hub.now.course.world.threads) }
     {
+        let mut threads = Vec::new(self.alloc);
         for t in 0..self.hub.book().next_thread().0 {
-            self.push_left(out, t)?;
+            self.push_thread(&mut threads, t)?;
         }
-        Ok(())
+        Ok(threads)
     }
 }

@@ -1,131 +1,36 @@
-//! The line of a class.
+//! What is told of many runs, in words.
 
-ghost use Rattle.std.specs.{Prelude.{◌≡◌, ◌++◌, IfOk, OnOk, count_by, length, replicate}, Option.{option_copied}, Fmt.{decimal}};
-ghost use Rattle.cml_explore.specs.{Words.{at_left, at_right}, ClassViews.{plain_class}};
-ghost use Rattle.cml_explore.specs.Words as spec;
-
-use crate::classes::{Class, Classes};
-use crate::detail::Detail;
-use crate::tally::Tally;
-use cml_ending::{push_many, push_number};
+use crate::told::{ClassTold, RunTold, RunsTold, ThreadLeft, ThreadState};
+use cml_ending::{Stands, push_awaited, push_many, push_named, push_number};
+use cml_fault::push_reason;
+use cml_hub::End;
+use cml_phrase::{Place, push_line};
+use cml_text::Sexpr;
 use std::alloc::{AllocError, Global};
 
-/// How wide the columns are.
+// How wide the columns are.
 #[derive(Clone, Copy)]
-pub(crate) struct Widths {
-    /// That of the number of runs.
-    pub(crate) runs: usize,
-    /// That of how they ended.
-    pub(crate) words: usize,
-    /// That of the number of outputs.
-    pub(crate) outputs: usize,
-}
-
-// Appends so many spaces.
-fn push_spaces(alloc: Global, out: &mut Vec<u8>, count: usize) -> Result<(), AllocError>
-    ensures { OnOk result (out.new.items ≡ out.old.items ++ replicate count 32) }
-{
-    let spaces = vec![in alloc; b' '; count]?;
-    out.extend_from_slice(spaces.as_slice())
-}
-
-// Appends a text at the left end of a column.
-fn push_at_left(
-    alloc: Global,
-    out: &mut Vec<u8>,
-    width: usize,
-    text: &[u8],
-) -> Result<(), AllocError>
-    ensures { OnOk result (out.new.items ≡ out.old.items ++ at_left width text.now) }
-{
-    out.extend_from_slice(text)?;
-    push_spaces(alloc, out, width.saturating_sub(text.len()))
-}
-
-// Appends a number at the right end of a column.
-fn push_at_right(
-    alloc: Global,
-    out: &mut Vec<u8>,
-    width: usize,
-    number: u64,
-) -> Result<(), AllocError>
-    ensures { OnOk result (out.new.items ≡ out.old.items ++ at_right width (decimal number)) }
-{
-    let digits = format!(in alloc; "{number}")?;
-    push_spaces(alloc, out, width.saturating_sub(digits.len()))?;
-    out.extend_from_slice(digits.as_bytes())
+struct Widths {
+    runs: usize,
+    end: usize,
+    outputs: usize,
 }
 
 // The word for how a run ended.
-fn end_word(first: Option<&Detail>) -> &'static [u8]
-    ensures { result.now ≡ spec.end_word (option_copied first.entry) }
-{
-    match first {
-        Some(Detail::Quiet) => b"quiet",
-        Some(Detail::Budget) => b"budget",
-        Some(Detail::Partial) => b"partial",
-        _ => b"",
-    }
-}
-
-// Whether it is said that a thread waits.
-fn is_waits(detail: Detail) -> bool
-    ensures { result ≡ spec.is_waits detail }
-{
-    matches!(detail, Detail::Waits)
-}
-
-// Whether it is said that a thread runs.
-fn is_runs(detail: Detail) -> bool
-    ensures { result ≡ spec.is_runs detail }
-{
-    matches!(detail, Detail::Runs)
-}
-
-// How many threads wait.
-fn wait_count(details: &[Detail]) -> u64
-    ensures { result ≡ count_by spec.is_waits details.now }
-{
-    let mut count = 0;
-    for detail in details {
-        if is_waits(*detail) {
-            count += 1;
-        }
-    }
-    count
-}
-
-// How many threads run.
-fn run_count(details: &[Detail]) -> u64
-    ensures { result ≡ count_by spec.is_runs details.now }
-{
-    let mut count = 0;
-    for detail in details {
-        if is_runs(*detail) {
-            count += 1;
-        }
-    }
-    count
-}
-
-// How many threads ended at a fault.
-fn fault_count(last: Option<&Detail>) -> u64
-    ensures { result ≡ spec.faults_said (option_copied last.entry) }
-{
-    match last {
-        Some(Detail::Faults(count)) => *count as u64,
-        _ => 0,
+fn end_word(end: End) -> &'static [u8] {
+    match end {
+        End::Quiet => b"quiet",
+        End::Budget => b"budget",
+        End::Partial => b"partial",
     }
 }
 
 // Appends how many threads wait.
-fn push_waits(alloc: Global, out: &mut Vec<u8>, count: u64) -> Result<(), AllocError>
-    ensures { OnOk result (out.new.items ≡ out.old.items ++ spec.waits_words count) }
-{
+fn push_waits(alloc: Global, out: &mut Vec<u8>, count: usize) -> Result<(), AllocError> {
     if count == 0 {
         out.extend_from_slice(b"none waits")
     } else {
-        push_many(alloc, out, " waits", " wait", count)
+        push_many(alloc, out, " waits", " wait", count as u64)
     }
 }
 
@@ -135,73 +40,77 @@ fn push_further(
     out: &mut Vec<u8>,
     one: &str,
     more: &str,
-    count: u64,
-) -> Result<(), AllocError>
-    ensures { OnOk result (out.new.items ≡ out.old.items ++ spec.further one.now more.now count) }
-{
+    count: usize,
+) -> Result<(), AllocError> {
     if count == 0 {
         return Ok(());
     }
     out.extend_from_slice(b", ")?;
-    push_many(alloc, out, one, more, count)
+    push_many(alloc, out, one, more, count as u64)
 }
 
-// How the runs of a class ended, in words.
-fn end_words(alloc: Global, details: &[Detail]) -> Result<Vec<u8>, AllocError>
-    ensures { IfOk result (λ words. words.items ≡ spec.end_words details.now) }
-{
-    let mut words = Vec::from_slice(alloc, end_word(details.first()))?;
+// How a run ended, in words: `quiet, 1 waits, 2 run, 1 fault`.
+fn end_words(alloc: Global, run: &RunTold) -> Result<Vec<u8>, AllocError> {
+    let mut words = Vec::from_slice(alloc, end_word(run.end))?;
     words.extend_from_slice(b", ")?;
-    push_waits(alloc, &mut words, wait_count(details))?;
-    push_further(alloc, &mut words, " runs", " run", run_count(details))?;
-    push_further(
-        alloc,
-        &mut words,
-        " fault",
-        " faults",
-        fault_count(details.last()),
-    )?;
+    push_waits(alloc, &mut words, run.waits)?;
+    push_further(alloc, &mut words, " runs", " run", run.runs)?;
+    push_further(alloc, &mut words, " fault", " faults", run.faults)?;
     Ok(words)
 }
 
 // How many digits a number has.
-fn digit_count(alloc: Global, number: u64) -> Result<usize, AllocError>
-    ensures { IfOk result (λ count. count ≡ length (decimal number)) }
-{
+fn digit_count(alloc: Global, number: u64) -> Result<usize, AllocError> {
     let digits = format!(in alloc; "{number}")?;
     Ok(digits.len())
 }
 
 // The columns, wide enough for this class too.
-fn wider(alloc: Global, widths: Widths, class: Class<'_>) -> Result<Widths, AllocError>
-    ensures { IfOk result (λ new. new ≡ spec.wider widths (plain_class class.entry)) }
-{
-    let runs = digit_count(alloc, class.tally.runs())?;
-    let words = end_words(alloc, class.details)?;
-    let outputs = digit_count(alloc, class.tally.outputs() as u64)?;
+fn wider(alloc: Global, widths: Widths, class: &ClassTold) -> Result<Widths, AllocError> {
+    let runs = digit_count(alloc, class.runs)?;
+    let outputs = digit_count(alloc, class.outputs as u64)?;
+    let words = end_words(alloc, &class.run)?;
     Ok(Widths {
         runs: widths.runs.max(runs),
-        words: widths.words.max(words.len()),
+        end: widths.end.max(words.len()),
         outputs: widths.outputs.max(outputs),
     })
 }
 
-/// How wide the columns are.
-///
-/// # Errors
-/// Out of memory.
-pub(crate) fn widths_of(alloc: Global, classes: &Classes) -> Result<Widths, AllocError>
-    ensures { IfOk result (λ widths. widths ≡ spec.widths_of classes.now) }
-{
+// How wide the columns are: each as wide as what is widest in it.
+fn widths_of(alloc: Global, classes: &[ClassTold]) -> Result<Widths, AllocError> {
     let mut widths = Widths {
         runs: 0,
-        words: 0,
+        end: 0,
         outputs: 0,
     };
-    for k in 0..classes.len() {
-        widths = wider(alloc, widths, classes.class(k))?;
+    for class in classes {
+        widths = wider(alloc, widths, class)?;
     }
     Ok(widths)
+}
+
+// Appends a text at the left end of a column.
+fn push_at_left(
+    alloc: Global,
+    out: &mut Vec<u8>,
+    width: usize,
+    text: &[u8],
+) -> Result<(), AllocError> {
+    out.extend_from_slice(text)?;
+    let spaces = vec![in alloc; b' '; width.saturating_sub(text.len())]?;
+    out.extend_from_slice(spaces.as_slice())
+}
+
+// Appends a number at the right end of a column.
+fn push_at_right(
+    alloc: Global,
+    out: &mut Vec<u8>,
+    width: usize,
+    number: u64,
+) -> Result<(), AllocError> {
+    let digits = format!(in alloc; "{number:>width$}")?;
+    out.extend_from_slice(digits.as_bytes())
 }
 
 // Appends how many different outputs there are.
@@ -209,11 +118,9 @@ fn push_outputs(
     alloc: Global,
     out: &mut Vec<u8>,
     width: usize,
-    count: u64,
-) -> Result<(), AllocError>
-    ensures { OnOk result (out.new.items ≡ out.old.items ++ spec.outputs_words width count) }
-{
-    push_at_right(alloc, out, width, count)?;
+    count: usize,
+) -> Result<(), AllocError> {
+    push_at_right(alloc, out, width, count as u64)?;
     if count == 1 {
         out.extend_from_slice(b" output ")
     } else {
@@ -222,45 +129,127 @@ fn push_outputs(
 }
 
 // Appends which run of a class was the first.
-fn push_first(alloc: Global, out: &mut Vec<u8>, tally: &Tally) -> Result<(), AllocError>
-    ensures { OnOk result (out.new.items ≡ out.old.items ++ spec.first_words tally.now) }
-{
+fn push_first(alloc: Global, out: &mut Vec<u8>, class: &ClassTold) -> Result<(), AllocError> {
     out.extend_from_slice(b"   first: seed ")?;
-    push_number(alloc, out, tally.first())?;
+    push_number(alloc, out, class.first)?;
     out.extend_from_slice(b", ")?;
-    push_many(alloc, out, " item", " items", tally.items() as u64)?;
+    push_many(alloc, out, " item", " items", class.items as u64)?;
     out.extend_from_slice(b"\n")
 }
 
 // Appends the number of a class's runs, and how they ended.
-fn push_ends(
+fn push_end(
     alloc: Global,
     out: &mut Vec<u8>,
     widths: Widths,
-    class: Class<'_>,
-) -> Result<(), AllocError>
-    ensures { OnOk result (out.new.items ≡ out.old.items ++ spec.ends_words widths (plain_class class.entry)) }
-{
-    push_at_right(alloc, out, widths.runs, class.tally.runs())?;
+    class: &ClassTold,
+) -> Result<(), AllocError> {
+    push_at_right(alloc, out, widths.runs, class.runs)?;
     out.extend_from_slice(b"  ")?;
-    let words = end_words(alloc, class.details)?;
-    push_at_left(alloc, out, widths.words, words.as_slice())?;
+    let words = end_words(alloc, &class.run)?;
+    push_at_left(alloc, out, widths.end, words.as_slice())?;
     out.extend_from_slice(b"   ")
 }
 
-/// Appends the first line of a class.
+// Appends a line and a column, if they are known.
+fn push_position(alloc: Global, out: &mut Vec<u8>, place: Option<Place>) -> Result<(), AllocError> {
+    match place {
+        Some(place) => {
+            out.extend_from_slice(b" at ")?;
+            push_line(alloc, out, place)
+        }
+        None => Ok(()),
+    }
+}
+
+// Appends how a thread is left.
+fn push_state(
+    alloc: Global,
+    out: &mut Vec<u8>,
+    forms: &[Sexpr],
+    state: &ThreadState,
+) -> Result<(), AllocError> {
+    match state {
+        ThreadState::Stands(Stands::Waits(awaited)) => {
+            out.extend_from_slice(b": ")?;
+            push_awaited(alloc, out, forms, awaited)
+        }
+        ThreadState::Stands(Stands::Runs) => out.extend_from_slice(b" runs"),
+        ThreadState::AtFault(reason) => {
+            out.extend_from_slice(b" ends at a fault: ")?;
+            push_reason(alloc, out, reason)
+        }
+    }
+}
+
+// Appends the line of a thread.
+fn push_thread(
+    alloc: Global,
+    out: &mut Vec<u8>,
+    forms: &[Sexpr],
+    left: &ThreadLeft,
+) -> Result<(), AllocError> {
+    out.extend_from_slice(b"       ")?;
+    push_named(alloc, out, forms, &left.thread)?;
+    push_position(alloc, out, left.place)?;
+    push_state(alloc, out, forms, &left.state)?;
+    out.extend_from_slice(b"\n")
+}
+
+// Appends the lines of a class: its own, and those of the threads of its first run.
+fn push_class(
+    alloc: Global,
+    out: &mut Vec<u8>,
+    forms: &[Sexpr],
+    widths: Widths,
+    class: &ClassTold,
+) -> Result<(), AllocError> {
+    push_end(alloc, out, widths, class)?;
+    push_outputs(alloc, out, widths.outputs, class.outputs)?;
+    push_first(alloc, out, class)?;
+    for left in &class.run.threads {
+        push_thread(alloc, out, forms, left)?;
+    }
+    Ok(())
+}
+
+// Appends by which seeds the runs were made.
+fn push_seeds(alloc: Global, out: &mut Vec<u8>, told: &RunsTold) -> Result<(), AllocError> {
+    match told.last {
+        None => {
+            out.extend_from_slice(b", seed ")?;
+            push_number(alloc, out, told.first)
+        }
+        Some(last) => {
+            out.extend_from_slice(b", seeds ")?;
+            push_number(alloc, out, told.first)?;
+            out.extend_from_slice(b" to ")?;
+            push_number(alloc, out, last)
+        }
+    }
+}
+
+/// Appends what is told of many runs of the script that has this name and forms: how many runs, and the classes of those that ended alike, each
+/// with the threads that are left in its first run or ended at a fault in it.
 ///
 /// # Errors
 /// Out of memory.
-pub(crate) fn push_class_line(
+pub fn write_runs(
     alloc: Global,
     out: &mut Vec<u8>,
-    widths: Widths,
-    class: Class<'_>,
-) -> Result<(), AllocError>
-    ensures { OnOk result (out.new.items ≡ out.old.items ++ spec.class_line widths (plain_class class.entry)) }
-{
-    push_ends(alloc, out, widths, class)?;
-    push_outputs(alloc, out, widths.outputs, class.tally.outputs() as u64)?;
-    push_first(alloc, out, class.tally)
+    name: &str,
+    forms: &[Sexpr],
+    told: &RunsTold,
+) -> Result<(), AllocError> {
+    push_many(alloc, out, " run", " runs", told.runs)?;
+    out.extend_from_slice(b" of ")?;
+    out.extend_from_slice(name.as_bytes())?;
+    push_seeds(alloc, out, told)?;
+    out.extend_from_slice(b"\n")?;
+    let classes = told.classes.as_slice();
+    let widths = widths_of(alloc, classes)?;
+    for class in classes {
+        push_class(alloc, out, forms, widths, class)?;
+    }
+    Ok(())
 }

@@ -18,10 +18,10 @@ use Rattle.cml_hub.specs.Performed.{PlainDone, performed}
 use Rattle.cml_hub.specs.Deeds.{deed, after_deed, deeds_from, is_fault, fault_count}
 use Rattle.cml_hub.specs.Runs.{Run, opening, advance, stands_from, stands}
 use Rattle.cml_hub.specs.Courses.{PlainCourse, run_of}
-use Rattle.cml_fault.specs.Failures.{Failure, failure_of, failure_if, failure_from, failure_by, failures_from, failures, block_limit, first_failures}
+use Rattle.cml_fault.specs.Failures.{Failure, failure_of, failure_if, failure_from, failure_by, failures_from, failures, fault_limit, first_failures}
 use Rattle.cml_fault.specs.Failed.{FailsBy, FailsSo}
-use Rattle.cml_fault.specs.Blocks.{Known, IsBlock, AreBlocks}
-use Rattle.cml_fault.specs.Views.{IsAdded}
+use Rattle.cml_fault.specs.declared.fact.ThreadFault.{ThreadFault}
+use Rattle.cml_fault.specs.ThreadFaults.{Known, IsThreadFault, AreThreadFaults}
 
 -- one item more
 failures_from-push : (p : Program) (r : Option Run) (items : List Item) (item : Item) →
@@ -74,18 +74,20 @@ pub counted : (p : Program) (items : List Item) → fault_count p items ≡ leng
 counted p items = counted_from p (Some (opening p)) items
 
 -- no fault is counted where there is no failure
-no_blocks : (k : Known) (p : List (PlainItem ℕ)) (fs : List Failure) → 0 ≡ length fs → AreBlocks k p (take block_limit fs) []
-no_blocks k p [] e = refl
-no_blocks k p (f ∷ fs) e = absurd (omega (arith, e))
+none_known : (k : Known) (p : List (PlainItem ℕ)) (fs : List Failure) → 0 ≡ length fs → AreThreadFaults k p (take fault_limit fs) []
+none_known k p [] e = tt
+none_known k p (f ∷ fs) e = absurd (omega (arith, e))
 
-pub no_faults : (k : Known) (p : List (PlainItem ℕ)) (text : Program) (items : List Item) → fault_count text items ≡ 0 → AreBlocks k p (first_failures text items) []
-no_faults k p text items none = no_blocks k p (failures text items) (sym none ∙ counted text items)
+pub no_faults : (k : Known) (p : List (PlainItem ℕ)) (text : Program) (items : List Item) → fault_count text items ≡ 0 → AreThreadFaults k p (first_failures text items) []
+no_faults k p text items none = none_known k p (failures text items) (sym none ∙ counted text items)
 
--- one block more
-blocks-push : (k : Known) (p : List (PlainItem ℕ)) (fs : List Failure) (f : Failure) (old added : List ℕ) → AreBlocks k p fs old → IsBlock k p f added → AreBlocks k p (fs ++ f ∷ []) (old ++ added)
-blocks-push k p [] f old added are is = (added, [], ap (λ x. x ++ added) are ∙ sym (append-nil added), is, refl)
-blocks-push k p (g ∷ fs) f old added (first, rest, split, block, are) is =
-    (first, rest ++ added, ap (λ x. x ++ added) split ∙ append_assoc first rest added, block, blocks-push k p fs f rest added are is)
+-- one more
+known-push : (k : Known) (p : List (PlainItem ℕ)) (fs : List Failure) (f : Failure) (old : List ThreadFault) (fault : ThreadFault) → AreThreadFaults k p fs old → IsThreadFault k p f fault →
+    AreThreadFaults k p (fs ++ f ∷ []) (old ++ fault ∷ [])
+known-push k p [] f [] fault are is = (is, tt)
+known-push k p [] f (x ∷ old) fault are is = absurd are
+known-push k p (g ∷ fs) f [] fault are is = absurd are
+known-push k p (g ∷ fs) f (x ∷ old) fault are is = (are.0, known-push k p fs f old fault are.1 is)
 
 -- ---- what an item makes of the failures
 
@@ -128,42 +130,46 @@ fails_by_turn p items t now term leads there grew =
     let some : failure_from p now t.0 term ≡ Some f = fails_so (is_fault (performed now.world t.0 (sliced p t.0 term).ask).1) f (failures p items) more in
     grown ∙ ap (λ o. failures p items ++ option_to_list o) some
 
--- ---- what an item makes of the blocks
+-- ---- what an item makes of what is known
 
 -- no thread failed
-pub none_told : (k : Known) (p : List (PlainItem ℕ)) (c : PlainCourse) (item : Item) (shown : List ℕ) → FailsSo c item None →
-    AreBlocks k p (first_failures (text_of c.program) c.items) shown → AreBlocks k p (first_failures (text_of c.program) (c.items ++ item ∷ [])) shown
-none_told k p c item shown same are = subst (λ fs. AreBlocks k p (take block_limit fs) shown) (sym same) are
+pub none_more : (k : Known) (p : List (PlainItem ℕ)) (c : PlainCourse) (item : Item) (faults : List ThreadFault) → FailsSo c item None →
+    AreThreadFaults k p (first_failures (text_of c.program) c.items) faults → AreThreadFaults k p (first_failures (text_of c.program) (c.items ++ item ∷ [])) faults
+none_more k p c item faults same are = subst (λ fs. AreThreadFaults k p (take fault_limit fs) faults) (sym same) are
 
--- enough of them are told
-pub past_told : (k : Known) (p : List (PlainItem ℕ)) (c : PlainCourse) (item : Item) (before : ℕ) (shown : List ℕ) → stands (text_of c.program) c.items ≡ Some (run_of c) →
-    before ≡ fault_count (text_of c.program) c.items → block_limit ≤ before →
-    AreBlocks k p (first_failures (text_of c.program) c.items) shown → AreBlocks k p (first_failures (text_of c.program) (c.items ++ item ∷ [])) shown
-past_told k p c item before shown leads was enough are =
+-- enough of them are known
+pub past_more : (k : Known) (p : List (PlainItem ℕ)) (c : PlainCourse) (item : Item) (before : ℕ) (faults : List ThreadFault) → stands (text_of c.program) c.items ≡ Some (run_of c) →
+    before ≡ fault_count (text_of c.program) c.items → fault_limit ≤ before →
+    AreThreadFaults k p (first_failures (text_of c.program) c.items) faults → AreThreadFaults k p (first_failures (text_of c.program) (c.items ++ item ∷ [])) faults
+past_more k p c item before faults leads was enough are =
     let text = text_of c.program in
     let fs = failures text c.items in
-    let many : block_limit ≤ length fs = subst (λ n. block_limit ≤ n) (was ∙ counted text c.items) enough in
-    let first : first_failures text (c.items ++ item ∷ []) ≡ take block_limit fs =
-    ap (take block_limit) (failures-push text c.items item (run_of c) leads) ∙ take-append-le block_limit fs (option_to_list (failure_by text (run_of c) item)) many in
-    subst (λ xs. AreBlocks k p xs shown) (sym first) are
+    let many : fault_limit ≤ length fs = subst (λ n. fault_limit ≤ n) (was ∙ counted text c.items) enough in
+    let first : first_failures text (c.items ++ item ∷ []) ≡ take fault_limit fs =
+    ap (take fault_limit) (failures-push text c.items item (run_of c) leads) ∙ take-append-le fault_limit fs (option_to_list (failure_by text (run_of c) item)) many in
+    subst (λ xs. AreThreadFaults k p xs faults) (sym first) are
 
 -- there is room for one more
-first_more : (k : Known) (p : List (PlainItem ℕ)) (fs : List Failure) (f : Failure) (old added : List ℕ) → length fs < block_limit → AreBlocks k p (take block_limit fs) old → IsBlock k p f added →
-    AreBlocks k p (take block_limit (fs ++ f ∷ [])) (old ++ added)
-first_more k p fs f old added room are is =
-    let before : take block_limit fs ≡ fs = take_all block_limit fs (omega (arith, room)) in
-    let after : take block_limit (fs ++ f ∷ []) ≡ fs ++ f ∷ [] = take_all block_limit (fs ++ f ∷ []) (omega (arith, room, length_push fs f)) in
-    subst (λ xs. AreBlocks k p xs (old ++ added)) (sym after) (blocks-push k p fs f old added (subst (λ xs. AreBlocks k p xs old) before are) is)
+first_more : (k : Known) (p : List (PlainItem ℕ)) (fs : List Failure) (f : Failure) (old : List ThreadFault) (fault : ThreadFault) → length fs < fault_limit →
+    AreThreadFaults k p (take fault_limit fs) old → IsThreadFault k p f fault → AreThreadFaults k p (take fault_limit (fs ++ f ∷ [])) (old ++ fault ∷ [])
+first_more k p fs f old fault room are is =
+    let before : take fault_limit fs ≡ fs = take_all fault_limit fs (omega (arith, room)) in
+    let after : take fault_limit (fs ++ f ∷ []) ≡ fs ++ f ∷ [] = take_all fault_limit (fs ++ f ∷ []) (omega (arith, room, length_push fs f)) in
+    subst (λ xs. AreThreadFaults k p xs (old ++ fault ∷ [])) (sym after) (known-push k p fs f old fault (subst (λ xs. AreThreadFaults k p xs old) before are) is)
 
-pub one_told : {T E : Type 0} (r : Result T E) (k : Known) (c : PlainCourse) (p : List (PlainItem ℕ)) (item : Item) (m : PlainMachine) (before : ℕ) (o n : List ℕ) →
-    c.program ≡ p → before ≡ fault_count (text_of c.program) c.items → before < block_limit → FailsBy c item m →
-    OnOk r (IsAdded (IsBlock k p (failure_of (text_of p) m.thread (machine_term p m))) o n) →
-    OnOk r (AreBlocks k c.program (first_failures (text_of c.program) c.items) o → AreBlocks k c.program (first_failures (text_of c.program) (c.items ++ item ∷ [])) n)
-one_told (Ok x) k c p item m before o n here was room fell one = λ are.
+pub one_more : (k : Known) (c : PlainCourse) (p : List (PlainItem ℕ)) (item : Item) (m : PlainMachine) (before : ℕ) (fault : ThreadFault) (old new : List ThreadFault) →
+    c.program ≡ p → before ≡ fault_count (text_of c.program) c.items → before < fault_limit → FailsBy c item m →
+    IsThreadFault k p (failure_of (text_of p) m.thread (machine_term p m)) fault → new ≡ old ++ fault ∷ [] →
+    AreThreadFaults k c.program (first_failures (text_of c.program) c.items) old → AreThreadFaults k c.program (first_failures (text_of c.program) (c.items ++ item ∷ [])) new
+one_more k c p item m before fault old new here was room fell is pushed are =
     let fs = failures (text_of c.program) c.items in
     let f = failure_of (text_of c.program) m.thread (machine_term c.program m) in
-    let few : length fs < block_limit = subst (λ n. n < block_limit) (was ∙ counted (text_of c.program) c.items) room in
-    let added : IsAdded (IsBlock k c.program f) o n = subst (λ q. IsAdded (IsBlock k q (failure_of (text_of q) m.thread (machine_term q m))) o n) (sym here) one in
-    subst (λ xs. AreBlocks k c.program (take block_limit xs) n) (sym fell.one_more)
-    (subst (AreBlocks k c.program (take block_limit (fs ++ f ∷ []))) (sym added.text_is) (first_more k c.program fs f o added.added few are added.is))
-one_told (Err y) k c p item m before o n here was room fell one = tt
+    let few : length fs < fault_limit = subst (λ n. n < fault_limit) (was ∙ counted (text_of c.program) c.items) room in
+    let own : IsThreadFault k c.program f fault = subst (λ q. IsThreadFault k q (failure_of (text_of q) m.thread (machine_term q m)) fault) (sym here) is in
+    subst (λ xs. AreThreadFaults k c.program (take fault_limit xs) new) (sym fell.one_more)
+    (subst (AreThreadFaults k c.program (take fault_limit (fs ++ f ∷ []))) (sym pushed) (first_more k c.program fs f old fault few are own))
+
+-- what holds, whatever comes back
+pub always : {T E P : Type 0} (r : Result T E) → P → OnOk r P
+always (Ok x) h = h
+always (Err y) h = tt

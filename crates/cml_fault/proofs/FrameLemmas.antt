@@ -5,30 +5,25 @@ use Rattle.std.specs.List.{filter_map, cons_option}
 use Rattle.std.proofs.lemmas.List.{length_push, reverse-append}
 use Rattle.std.proofs.lemmas.Option.{slice_get_read}
 use Rattle.cml_check.specs.Syntax.{PlainItem}
-use Rattle.cml_step.specs.Machines.{PlainHeld, call, force, wraps}
+use Rattle.cml_step.specs.Machines.{PlainHeld}
 use Rattle.cml_ending.specs.Standings.{as_call}
 use Rattle.cml_fault.specs.declared.frame.Frame.{Frame}
-use Rattle.cml_fault.specs.Frames.{only_call, calls_down, IsFrame}
-
--- a call is the same, whichever word says so
-same_call : (h : PlainHeld) → only_call h ≡ as_call h
-same_call (call f at slots w) = refl
-same_call (force g asked) = refl
-same_call (wraps fs v) = refl
+use Rattle.cml_phrase.specs.declared.place.Place.{Place}
+use Rattle.cml_fault.specs.Frames.{calls_down, IsFrame}
 
 -- the last entry is looked at first
-calls_down-push : (new : List PlainHeld) (h : PlainHeld) → calls_down (new ++ h ∷ []) ≡ cons_option (only_call h) (calls_down new)
-calls_down-push new h = ap (filter_map only_call) (reverse-append new (h ∷ []))
+calls_down-push : (new : List PlainHeld) (h : PlainHeld) → calls_down (new ++ h ∷ []) ≡ cons_option (as_call h) (calls_down new)
+calls_down-push new h = ap (filter_map as_call) (reverse-append new (h ∷ []))
 
 pub is_call : (old new : List PlainHeld) (h c : PlainHeld) (cs all : List PlainHeld) → old ≡ new ++ h ∷ [] → cs ++ calls_down old ≡ all → as_call h ≡ Some c → (cs ++ c ∷ []) ++ calls_down new ≡ all
 is_call old new h c cs all split so_far is =
     append_assoc cs (c ∷ []) (calls_down new)
-    ∙ (ap (λ x. cs ++ cons_option x (calls_down new)) (sym (same_call h ∙ is))
+    ∙ (ap (λ x. cs ++ cons_option x (calls_down new)) (sym is)
     ∙ (ap (λ x. cs ++ x) (sym (calls_down-push new h)) ∙ (ap (λ x. cs ++ calls_down x) (sym split) ∙ so_far)))
 
 pub no_call : (old new : List PlainHeld) (h : PlainHeld) (cs all : List PlainHeld) → old ≡ new ++ h ∷ [] → cs ++ calls_down old ≡ all → as_call h ≡ None → cs ++ calls_down new ≡ all
 no_call old new h cs all split so_far is =
-    ap (λ x. cs ++ cons_option x (calls_down new)) (sym (same_call h ∙ is))
+    ap (λ x. cs ++ cons_option x (calls_down new)) (sym is)
     ∙ (ap (λ x. cs ++ x) (sym (calls_down-push new h)) ∙ (ap (λ x. cs ++ calls_down x) (sym split) ∙ so_far))
 
 pub through : (old : List PlainHeld) (cs all : List PlainHeld) → old ≡ [] → cs ++ calls_down old ≡ all → cs ≡ all
@@ -57,17 +52,17 @@ got_last [] f = refl
 got_last (g ∷ frames) f = got_last frames f
 
 -- the frame of one call more
-each_by : (p : List (PlainItem ℕ)) (calls : List PlainHeld) (frames : List Frame) (i j : ℕ) (f : Frame) → length frames ≡ i → ((n : ℕ) → n < i → IsFrame p (slice_get calls n) (slice_get frames n)) →
-    IsFrame p (slice_get calls i) (Some f) → (j < i) ⊎ (j ≡ i) → IsFrame p (slice_get calls j) (slice_get (frames ++ f ∷ []) j)
-each_by p calls frames i j f count each is (inl h) = subst (IsFrame p (slice_get calls j)) (got_below frames f j (omega (arith, h, count))) (each j h)
-each_by p calls frames i j f count each is (inr e) =
-    let here : IsFrame p (slice_get calls j) (Some f) = subst (λ n. IsFrame p (slice_get calls n) (Some f)) (sym e) is in
+each_by : (places : List (List Place)) (p : List (PlainItem ℕ)) (calls : List PlainHeld) (frames : List Frame) (i j : ℕ) (f : Frame) → length frames ≡ i → ((n : ℕ) → n < i → IsFrame places p (slice_get calls n) (slice_get frames n)) →
+    IsFrame places p (slice_get calls i) (Some f) → (j < i) ⊎ (j ≡ i) → IsFrame places p (slice_get calls j) (slice_get (frames ++ f ∷ []) j)
+each_by places p calls frames i j f count each is (inl h) = subst (IsFrame places p (slice_get calls j)) (got_below frames f j (omega (arith, h, count))) (each j h)
+each_by places p calls frames i j f count each is (inr e) =
+    let here : IsFrame places p (slice_get calls j) (Some f) = subst (λ n. IsFrame places p (slice_get calls n) (Some f)) (sym e) is in
     let at : Some f ≡ slice_get (frames ++ f ∷ []) j = got_last frames f ∙ ap (slice_get (frames ++ f ∷ [])) (count ∙ sym e) in
-    subst (IsFrame p (slice_get calls j)) at here
+    subst (IsFrame places p (slice_get calls j)) at here
 
-pub each_more : (p : List (PlainItem ℕ)) (calls : List PlainHeld) (frames : List Frame) (i : ℕ) (f : Frame) (h : PlainHeld) → i < length calls → h ≡ get_or calls i h → length frames ≡ i →
-    ((n : ℕ) → n < i → IsFrame p (slice_get calls n) (slice_get frames n)) → IsFrame p (Some h) (Some f) →
-    (j : ℕ) → j < i + 1 → IsFrame p (slice_get calls j) (slice_get (frames ++ f ∷ []) j)
-each_more p calls frames i f h within at count each is j below =
+pub each_more : (places : List (List Place)) (p : List (PlainItem ℕ)) (calls : List PlainHeld) (frames : List Frame) (i : ℕ) (f : Frame) (h : PlainHeld) → i < length calls → h ≡ get_or calls i h → length frames ≡ i →
+    ((n : ℕ) → n < i → IsFrame places p (slice_get calls n) (slice_get frames n)) → IsFrame places p (Some h) (Some f) →
+    (j : ℕ) → j < i + 1 → IsFrame places p (slice_get calls j) (slice_get (frames ++ f ∷ []) j)
+each_more places p calls frames i f h within at count each is j below =
     let there : Some h ≡ slice_get calls i = sym (slice_get_read calls (length calls) i h refl within at) in
-    each_by p calls frames i j f count each (subst (λ x. IsFrame p x (Some f)) there is) (below_or_at j i below)
+    each_by places p calls frames i j f count each (subst (λ x. IsFrame places p x (Some f)) there is) (below_or_at j i below)

@@ -1,7 +1,10 @@
+pub mod ChoiceLemmas
+pub mod PartLemmas
+pub mod StepLemmas
 pub mod FailureLemmas
 pub mod FailedLemmas
-pub mod BlockLemmas
+pub mod FallLemmas
+pub mod DetailLemmas
 pub mod FrameLemmas
-pub mod WordLemmas
-pub mod ShownVariables
+pub mod FaultLemmas
 pub mod EndLemmas

@@ -49,8 +49,8 @@ abbrev pub failures : Program → List Item → List Failure
 failures p items = failures_from p (Some (opening p)) items
 
 -- so many of them are told
-abbrev pub block_limit : ℕ
-block_limit = 20
+abbrev pub fault_limit : ℕ
+fault_limit = 20
 
 abbrev pub first_failures : Program → List Item → List Failure
-first_failures p items = take block_limit (failures p items)
+first_failures p items = take fault_limit (failures p items)

@@ -1,7 +1,11 @@
+pub mod Parts
+pub mod Reasons
 pub mod Failures
 pub mod Failed
+pub mod Falls
+pub mod FallViews
+pub mod Details
 pub mod Frames
-pub mod VariableLines
-pub mod Blocks
-pub mod Views
+pub mod ThreadFaults
 pub mod Faulted
+pub mod Views

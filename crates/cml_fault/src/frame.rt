@@ -1,20 +1,23 @@
 //! The calls on a thread's stack, and where they stand.
 
-ghost use Rattle.std.specs.Prelude.{◌≡◌, Some, IfOk, map};
-ghost use Rattle.cml_fault.specs.{Frames.{AreFrames, IsFrame}, Views.{held_call}};
+ghost use Rattle.std.specs.{Prelude.{◌≡◌, Some, IfOk, map}, Option.{option_and_then}};
+ghost use Rattle.cml_phrase.specs.Spots.{statement_place};
+ghost use Rattle.cml_fault.specs.{Frames.{AreFrames, IsFrame}, Views.{held_call, plain_places}};
 ghost use Rattle.cml_fault.specs.Frames as spec;
 
-use cml_check::Prog;
+use crate::fact::Sources;
 use cml_ending::as_call;
+use cml_phrase::{Place, statement_place};
 use cml_step::{Call, Machine};
 use cml_value::Value;
 use std::alloc::{AllocError, Global};
 
-/// Where a call stands: its function, and there the number of a statement, if one is known.
+/// Where a call stands: its function, there the number of a statement, if one is known, and where that begins.
 #[derive(Clone, Copy, PartialEq, Eq)]
 pub struct Frame {
     pub function: u32,
     pub statement: Option<usize>,
+    pub place: Option<Place>,
 }
 
 /// The calls on the stack of a thread, from the top.
@@ -37,13 +40,23 @@ pub(crate) fn calls_down(alloc: Global, machine: &Machine) -> Result<Vec<&Call>,
     Ok(calls)
 }
 
-// Where a call stands.
-fn frame_of(program: &Prog, call: &Call) -> Frame
-    ensures { IsFrame program.now (Some (held_call call.now)) (Some result) }
+// Where a statement of a function begins, if one is known.
+fn place_in(sources: &Sources<'_>, function: u32, statement: Option<usize>) -> Option<Place>
+    ensures { result ≡ option_and_then (statement_place (plain_places sources.now.places.now) function) statement }
 {
+    statement_place(sources.places, function, statement?)
+}
+
+// Where a call stands.
+fn frame_of(sources: &Sources<'_>, call: &Call) -> Frame
+    ensures { IsFrame (plain_places sources.now.places.now) sources.now.hub.now.course.program (Some (held_call call.now)) (Some result) }
+{
+    let function = call.function();
+    let statement = call.place(sources.hub.program());
     Frame {
-        function: call.function(),
-        statement: call.place(program),
+        function,
+        statement,
+        place: place_in(sources, function, statement),
     }
 }
 
@@ -52,17 +65,13 @@ fn frame_of(program: &Prog, call: &Call) -> Frame
 /// # Errors
 /// Out of memory.
 #[tactic(auto, using(crate::proofs::FrameLemmas::each_more))]
-pub(crate) fn frames_of(
-    alloc: Global,
-    program: &Prog,
-    calls: &[&Call],
-) -> Result<Vec<Frame>, AllocError>
-    ensures { IfOk result (λ frames.
-        AreFrames program.now (map (λ call. held_call call.now) calls.now) frames.items) }
+pub(crate) fn frames_of(sources: &Sources<'_>, calls: &[&Call]) -> Result<Vec<Frame>, AllocError>
+    ensures { IfOk result (λ frames. AreFrames (plain_places sources.now.places.now) sources.now.hub.now.course.program
+        (map (λ call. held_call call.now) calls.now) frames.items) }
 {
-    let mut frames = Vec::new(alloc);
+    let mut frames = Vec::new(sources.alloc);
     for i in 0..calls.len() {
-        frames.push(frame_of(program, calls[i]))?;
+        frames.push(frame_of(sources, calls[i]))?;
     }
     Ok(frames)
 }

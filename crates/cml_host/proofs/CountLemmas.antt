@@ -9,7 +9,9 @@ use Rattle.cml_arguments.specs.declared.Answer.TheVariants as answer
 use Rattle.cml_arguments.specs.declared.ExploreOptions.{ExploreOptions}
 use Rattle.cml_arguments.specs.declared.ReplayOptions.{ReplayOptions}
 use Rattle.cml_arguments.specs.declared.RunOptions.{RunOptions}
-use Rattle.cml_arguments.specs.declared.Task.TheVariants.{Explore, Replay, Run}
+use Rattle.cml_arguments.specs.declared.Task.{Task}
+use Rattle.cml_arguments.specs.declared.Task.TheVariants.{Trace, Check, Fmt, Run, Replay, Explain, Explore, Shrink, Draw, Step}
+use Rattle.cml_host.specs.Statuses.{HasCounts}
 use Rattle.cml_work.specs.Works.{IsWorkerCount}
 
 watched : (watch : Option ℕ) → IfSome watch words.IsCount → IsWatch watch
@@ -27,7 +29,7 @@ run_counts options given is = (
   watched options.watch is.counts.2,
 )
 
-pub counted : (given : List (List ℕ)) (options : RunOptions) → IsAnswer given (answer.Task (Run options)) →
+counted : (given : List (List ℕ)) (options : RunOptions) → IsAnswer given (answer.Task (Run options)) →
     IsWorkerCount options.workers × IsBudget options.steps × IsWatch options.watch
 counted given options is =
     some_gives _ (λ named. Names named (Run options)) _ (λ named names. run_counts options named.1 names.1) is.0.1
@@ -35,28 +37,43 @@ counted given options is =
 replay_counts : (options : ReplayOptions) (given : _) → IsReplay given options → IsWatch options.watch
 replay_counts options given is = watched options.watch is.counts
 
-pub watch_counted : (given : List (List ℕ)) (options : ReplayOptions) → IsAnswer given (answer.Task (Replay options)) → IsWatch options.watch
+watch_counted : (given : List (List ℕ)) (options : ReplayOptions) → IsAnswer given (answer.Task (Replay options)) → IsWatch options.watch
 watch_counted given options is =
     some_gives _ (λ named. Names named (Replay options)) _ (λ named names. replay_counts options named.1 names.1) is.0.1
 
 explore_counts : (options : ExploreOptions) (given : _) → IsExplore given options → IsRuns options.runs × IsBudget options.steps
 explore_counts options given is = (is.counts.0, (is.counts.1.0, is.counts.1.1))
 
-pub explore_counted : (given : List (List ℕ)) (options : ExploreOptions) → IsAnswer given (answer.Task (Explore options)) → IsRuns options.runs × IsBudget options.steps
+explore_counted : (given : List (List ℕ)) (options : ExploreOptions) → IsAnswer given (answer.Task (Explore options)) → IsRuns options.runs × IsBudget options.steps
 explore_counted given options is =
     some_gives _ (λ named. Names named (Explore options)) _ (λ named names. explore_counts options named.1 names.1) is.0.1
 
 explore_depths : (options : ExploreOptions) (given : _) → IsExplore given options → IfSome options.priority words.IsDepth
 explore_depths options given is = is.counts.3
 
-pub explore_depth : (given : List (List ℕ)) (options : ExploreOptions) → IsAnswer given (answer.Task (Explore options)) → IfSome options.priority words.IsDepth
+explore_depth : (given : List (List ℕ)) (options : ExploreOptions) → IsAnswer given (answer.Task (Explore options)) → IfSome options.priority words.IsDepth
 explore_depth given options is =
     some_gives _ (λ named. Names named (Explore options)) _ (λ named names. explore_depths options named.1 names.1) is.0.1
 
 -- there is a seed for each run
-pub explore_seeds : (given : List (List ℕ)) (options : ExploreOptions) → IsAnswer given (answer.Task (Explore options)) → options.seed + options.runs ≤ 2 ^ 64
+explore_seeds : (given : List (List ℕ)) (options : ExploreOptions) → IsAnswer given (answer.Task (Explore options)) → options.seed + options.runs ≤ 2 ^ 64
 explore_seeds given options is = go (cases_lt (2 ^ 64) (options.seed + options.runs))
   where
     go : (2 ^ 64 < options.seed + options.runs) ⊎ (options.seed + options.runs ≤ 2 ^ 64) → options.seed + options.runs ≤ 2 ^ 64
     go (inl past) = absurd (is.1 (codes "--runs goes past the last seed, 18446744073709551615\n") (inr (inr (inl (past, refl)))))
     go (inr within) = within
+
+-- those of the command that the arguments name
+pub task_counted : (given : List (List ℕ)) (task : Task) → IsAnswer given (answer.Task task) → HasCounts task
+task_counted given (Run options) is = counted given options is
+task_counted given (Replay options) is = watch_counted given options is
+task_counted given (Explore options) is =
+    let counts = explore_counted given options is in
+    (counts.0, counts.1, explore_depth given options is, explore_seeds given options is)
+task_counted given (Trace options) is = tt
+task_counted given (Check options) is = tt
+task_counted given (Fmt options) is = tt
+task_counted given (Explain options) is = tt
+task_counted given (Shrink options) is = tt
+task_counted given (Draw options) is = tt
+task_counted given (Step options) is = tt

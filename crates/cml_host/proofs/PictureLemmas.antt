@@ -1,26 +1,27 @@
 -- The picture of the run of a hub: its items lead on from the beginning, so each of them can happen.
-use Rattle.std.proofs.Common.{◌≡◌, ◌∙◌, ◌++◌, [], ◌∷◌, ℕ, Bool, true, false, List, Option, Some, None, length, take, option_map, is_some, ap, Bor, refl, subst, sym, true≢false}
+use Rattle.std.proofs.Common.{◌≡◌, ◌∙◌, ◌++◌, ◌||◌, [], ◌∷◌, ℕ, Bool, true, false, List, Option, Some, None, length, take, option_map, is_some, ap, Bor, refl, subst, sym, true≢false}
+use Rattle.std.proofs.KnownBytes.{Appends-trans}
 use Rattle.std.proofs.Math.Seq.{take-length}
 use Rattle.cml_check.specs.Syntax.{PlainItem}
-use Rattle.cml_draw.specs.Draws.{HasUnfit, IsNotDrawn, ItemsLead}
-use Rattle.cml_draw.specs.declared.fault.DrawFault.{DrawFault}
-use Rattle.cml_draw.specs.declared.fault.DrawFault.TheVariants as fault
+use Rattle.cml_picture.specs.Draws.{HasUnfit, IsNotDrawn, ItemsLead}
+use Rattle.cml_picture.specs.declared.fault.DrawFault.{DrawFault}
+use Rattle.cml_picture.specs.declared.fault.DrawFault.TheVariants as fault
 use Rattle.cml_hub.specs.Courses.{PlainCourse, run_of}
 use Rattle.cml_hub.specs.Kept.{Kept, IsAtStart}
 use Rattle.cml_hub.specs.Runs.{Run, advance, is_allowed, opening, stands, stands_from}
-use Rattle.cml_narrative.specs.Tales.{Tale}
 use Rattle.cml_schedule.specs.declared.item.Item.{Item}
 use Rattle.cml_step.specs.Calls.{text_of}
 use Rattle.cml_step.specs.Terms.{Program}
 use Rattle.cml_arguments.specs.declared.RunOptions.{RunOptions}
-use Rattle.cml_host.specs.Closed.{PlainSubject, kept_of, script_as_subject}
+use Rattle.cml_host.specs.Closed.{SaysEnd}
 use Rattle.cml_host.specs.Drawn.{AllDrawn}
-use Rattle.cml_host.specs.Narrated.{Opens}
-use Rattle.cml_host.specs.Running.{PlainSaving, PlainWanted, IsPictureFor, IsRunDrawn, IsSayable, names_saved, saving_of, wanted_of}
-use Rattle.cml_host.specs.Scripts.{PlainScript}
+use Rattle.cml_host.specs.Plans.{Opens}
+use Rattle.cml_host.specs.Running.{IsPictureFor, IsRunDrawn, IsSayable, saving_of, wanted_of}
 use Rattle.cml_host.specs.declared.picture.Picture.{Picture}
 use Rattle.cml_host.specs.declared.picture.Picture.TheVariants as drawing
-use Rattle.cml_host.proofs.RanLemmas.{starts_itself}
+use Rattle.cml_stream.specs.Streams.{counted_stream, stream, Takes}
+use Rattle.cml_host.proofs.ClosedLemmas.{starts_itself}
+use Rattle.cml_host.proofs.TellLemmas.{says_behind}
 
 -- ---- no item is unfit
 
@@ -64,11 +65,11 @@ no_unfit budget h items number end opens leads unfit =
     some_not_none Run (stands p items) leads (from ∙ ap (stands_from p (Some (run_of h.course))) split ∙ nowhere)
 
 -- so a picture does not fail for an item
-pub no_bad_item : (tale : Tale) (budget : ℕ) (h : Kept) (items : List Item) (to number : ℕ) (end : PlainCourse) (why : DrawFault) → Opens h.course.program budget h →
-    is_some (stands (text_of h.course.program) items) ≡ true → to ≡ length items → why ≡ fault.BadItem number → IsNotDrawn tale h.course items 1 to end why → ⊥
-no_bad_item tale budget h items to number end why opens leads all is not =
+pub no_bad_item : (budget : ℕ) (h : Kept) (items : List Item) (to number : ℕ) (end : PlainCourse) (why : DrawFault) → Opens h.course.program budget h →
+    is_some (stands (text_of h.course.program) items) ≡ true → to ≡ length items → why ≡ fault.BadItem number → IsNotDrawn h.course items 1 to end why → ⊥
+no_bad_item budget h items to number end why opens leads all is not =
     no_unfit budget h items number end opens leads
-    (subst (λ (n : ℕ). IsNotDrawn tale h.course items 1 n end (fault.BadItem number)) all (subst (λ (w : DrawFault). IsNotDrawn tale h.course items 1 to end w) is not))
+    (subst (λ (n : ℕ). IsNotDrawn h.course items 1 n end (fault.BadItem number)) all (subst (λ (w : DrawFault). IsNotDrawn h.course items 1 to end w) is not))
 
 -- ---- the hub that begins again
 
@@ -86,16 +87,20 @@ leads_again p budget h items r opens leads =
     ap is_some (ap (λ (q : List (PlainItem ℕ)). stands (text_of q) items) opens.start.program ∙ leads)
 
 -- what it draws is the picture of the run
-pub run_drawn : (s : PlainSubject) (h again : Kept) (end : PlainCourse) (items : List Item) (drawn : Option (List ℕ)) → items ≡ h.course.items →
-    Opens h.course.program h.budget again → AllDrawn s again.course items end drawn → IsRunDrawn s h drawn
-run_drawn s h again end items (Some picture) same opens all =
-    (again, opens, (end, subst (λ (xs : List Item). AllDrawn s again.course xs end (Some picture)) same all))
-run_drawn s h again end items None same opens all =
-    (again, opens, (end, subst (λ (xs : List Item). AllDrawn s again.course xs end None) same all))
+pub run_drawn : (h again : Kept) (items : List Item) (drawn : Option (List ℕ)) → items ≡ h.course.items → Opens h.course.program h.budget again →
+    AllDrawn again.course items drawn → IsRunDrawn h drawn
+run_drawn h again items (Some picture) same opens all = (again, opens, subst (λ (xs : List Item). AllDrawn again.course xs (Some picture)) same all)
+run_drawn h again items None same opens all = (again, opens, subst (λ (xs : List Item). AllDrawn again.course xs None) same all)
 
 -- ---- what is asked for, and what is said
 
-pub sayable : (wanted : Option PlainWanted) (h : Kept) (made : Picture) → IsPictureFor wanted h made → IsSayable made
+-- nothing was written to the errors, and then how it ended was said
+pub end_behind : (explains : Bool) (a b d : Option (List ℕ)) (calls failed : ℕ) → Takes (stream a b) [] → SaysEnd explains (counted_stream b d calls failed) →
+    SaysEnd explains (counted_stream a d calls failed)
+end_behind true a b d calls failed before (words, said) = (words, says_behind a b d calls failed [] words before said)
+end_behind false a b d calls failed before said = (Appends-trans a b d [] [] before said.0, said.1)
+
+pub sayable : (wanted : Option (List ℕ)) (h : Kept) (made : Picture) → IsPictureFor wanted h made → IsSayable made
 sayable None h drawing.Unasked is = tt
 sayable None h (drawing.Drawn name made) is = absurd is
 sayable None h drawing.TooMany is = tt
@@ -103,19 +108,18 @@ sayable (Some w) h drawing.Unasked is = tt
 sayable (Some w) h (drawing.Drawn name made) is = is.2
 sayable (Some w) h drawing.TooMany is = tt
 
-kept_so : (explains : Bool) (s : PlainSubject) → kept_of explains true s ≡ Some s
-kept_so true s = refl
-kept_so false s = refl
+always : (b : Bool) → b || true ≡ true
+always true = refl
+always false = refl
 
--- what the arguments ask to be saved
-pub saving_asked : (options : RunOptions) (explains draws : Bool) (s : PlainScript) (kept : Option PlainSubject) →
-    draws ≡ is_some options.draw → kept ≡ kept_of explains draws (script_as_subject options.file.now s) →
-    names_saved (option_map (λ name. name.now) options.record) (option_map (λ name. name.now) options.draw) kept ≡ saving_of options s
-saving_asked options explains draws s kept asks is = ap (λ (w : Option PlainWanted). record { schedule = option_map (λ name. name.now) options.record; picture = w }) (go options.draw asks)
+-- a picture that the arguments ask for is saved, since the script is kept for it
+pub saving_asked : (options : RunOptions) (explains draws kept : Bool) → draws ≡ is_some options.draw → kept ≡ explains || draws →
+    record { schedule = option_map (λ name. name.now) options.record; picture = wanted_of (option_map (λ name. name.now) options.draw) kept } ≡ saving_of options
+saving_asked options explains draws kept asks is =
+    ap (λ (w : Option (List ℕ)). record { schedule = option_map (λ name. name.now) options.record; picture = w }) (go options.draw asks kept is)
   where
-    go : (o : Option (Bor (List ℕ))) → draws ≡ is_some o →
-        wanted_of (option_map (λ name. name.now) o) kept ≡ option_map (λ name. record { name = name.now; subject = script_as_subject options.file.now s }) o
-    go None off = refl
-    go (Some name) on =
-        ap (wanted_of (Some name.now)) (is ∙ (ap (λ (b : Bool). kept_of explains b (script_as_subject options.file.now s)) on
-        ∙ kept_so explains (script_as_subject options.file.now s)))
+    go : (o : Option (Bor (List ℕ))) → draws ≡ is_some o → (k : Bool) → k ≡ explains || draws →
+        wanted_of (option_map (λ name. name.now) o) k ≡ option_map (λ name. name.now) o
+    go o asks true is = refl
+    go None asks false is = refl
+    go (Some name) asks false is = absurd (true≢false (sym (is ∙ (ap (λ (b : Bool). explains || b) asks ∙ always explains))))

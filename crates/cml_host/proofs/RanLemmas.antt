@@ -9,160 +9,34 @@ use Rattle.cml_hub.specs.Kept.{Kept, IsAtStart, SwapsAreExchanges, TellsSwaps}
 use Rattle.cml_hub.proofs.Going.{each_from}
 use Rattle.cml_hub.specs.Playing.{Rules, Played, played, playing, called_back}
 use Rattle.cml_hub.proofs.Played.{begins_run}
-use Rattle.cml_hub.specs.Runs.{Run, over, stands}
+use Rattle.cml_hub.specs.Runs.{over, stands}
 use Rattle.cml_step.specs.Calls.{text_of}
 use Rattle.cml_monitor.specs.Reports.{PlainReport}
 use Rattle.cml_schedule.specs.declared.item.Item.{Item}
 use Rattle.cml_schedule.specs.Written.{schedule_text}
-use Rattle.cml_stream.specs.Streams.{Counted, stream, counted_stream, Takes, Says, IsIdle}
+use Rattle.cml_stream.specs.Streams.{Counted, stream, counted_stream, Takes}
 use Rattle.std.proofs.KnownBytes.{Appends-trans}
-use Rattle.cml_arguments.specs.declared.ReplayOptions.{ReplayOptions}
 use Rattle.cml_arguments.specs.declared.RunOptions.{RunOptions}
 use Rattle.cml_work.specs.Works.{IsWorked, GoesOnFrom}
 use Rattle.cml_host.specs.declared.picture.Picture.{Picture}
 use Rattle.cml_host.specs.declared.picture.Picture.TheVariants as drawing
 use Rattle.cml_host.specs.declared.run.Record.{Record}
-use Rattle.cml_host.specs.declared.refusal.Refusal.{Refusal}
-use Rattle.cml_host.specs.declared.refusal.Refusal.TheVariants.{Unread, Wrong, Memory}
 use Rattle.cml_host.specs.declared.workers.Cause.{Cause}
 use Rattle.cml_host.specs.declared.workers.Cause.TheVariants as cause
 use Rattle.cml_host.specs.declared.workers.Stopped.{Stopped}
-use Rattle.cml_host.specs.Closed.{PlainAsked, PlainClosing, asked_of, IsClosed, IsClosing, IsHubAt, SaysEnd}
-use Rattle.cml_host.specs.Replaying.{IsHubOf, IsNotRun, OpenedReplayed, ReplayOutcome, ReplayTold, ScheduleOutcome}
-use Rattle.cml_host.specs.Running.{HasEnded, PlainSaving, PlainWanted, IsPictureFor, IsRecorded, PictureKept}
-use Rattle.cml_host.specs.Running.{PictureRefused, RecordBroke, EndOutcome, saving_of, unsaved_told, ReportsAreLive}
-use Rattle.cml_host.specs.Running.{IsRunBy, IsChosen, Plays, PlaysChosen, ProgramOutcome, RunOutcome, BegunOutcome}
-use Rattle.cml_host.specs.Running.{OpenedOutcome, AreToldBy, IsStopped, StopOutcome, EndedOutcome, IsEnded}
+use Rattle.cml_host.specs.Closed.{PlainAsked, IsClosing}
+use Rattle.cml_host.specs.Refused.{TellsUnsaved}
+use Rattle.cml_host.specs.Running.{HasEnded, PlainSaving, IsPictureFor, IsRecorded, PictureKept, PictureRefused, RecordBroke, EndOutcome, saving_of, run_asked, ReportsAreLive}
+use Rattle.cml_host.specs.Running.{IsRunBy, IsChosen, Plays, PlaysChosen, ProgramOutcome, BegunOutcome}
+use Rattle.cml_host.specs.Running.{ScriptOutcome, AreToldBy, IsStopped, StopOutcome, EndedOutcome, IsEnded}
 use Rattle.cml_host.specs.Running.{IsNotEnded, IsMade, IsKept, IsNotKept}
-use Rattle.cml_host.specs.Servers.{IsNotNumbered, first_unknown, server_numbers, server_names}
-use Rattle.cml_host.specs.Said.{RefusalOutcome}
-use Rattle.cml_host.specs.Scripts.{PlainScript, IsOpened, IsNotOpened, NoScriptOutcome}
+use Rattle.cml_host.specs.Servers.{first_unknown, server_numbers, server_names}
+use Rattle.cml_host.specs.Scripts.{PlainScript}
 use Rattle.cml_host.specs.Stores.{Content, Shelf, IsReplacedBy, IsSaved, IsUnchanged}
-use Rattle.cml_host.specs.Told.{IsRunOf, AllReported, reports_text, whole_output, IsTold, IsNotTold, OutputNotTold, IsCutOff, IsForeign}
-use Rattle.cml_host.proofs.TellLemmas.{says_behind, reports_broke, closed_behind, cut_behind, output_behind, with_behind}
-
--- the hub's run is one of this program
-run_is : (p : List (PlainItem ℕ)) (watch : Option ℕ) (items : List Item) (h : Kept) → h.course.program ≡ p → h.watch ≡ watch → h.course.items ≡ items →
-    IsRunOf h.course.program h.watch h.course.items h.reports (run_of h.course) → IsRunOf p watch items h.reports (run_of h.course)
-run_is p watch items h program watched items_are run =
-    subst (λ (ts : List Item). IsRunOf p watch ts h.reports (run_of h.course)) items_are
-    (subst (λ (w : Option ℕ). IsRunOf p w h.course.items h.reports (run_of h.course)) watched
-    (subst (λ (q : List (PlainItem ℕ)). IsRunOf q h.watch h.course.items h.reports (run_of h.course)) program run))
-
--- ---- scripts
-
-pub not_scripted : (explains : Bool) (content : Content) (name : List ℕ) (why : Refusal) (errors : Counted) (status : ℕ) →
-    IsNotOpened explains name content why → RefusalOutcome explains name why 2 errors status → NoScriptOutcome explains content name errors status
-not_scripted explains content name (Unread why) errors status may (inl told) = inr (inl (may, (why, told.0), told.1))
-not_scripted explains content name (Unread why) errors status may (inr memory) = inr (inr memory)
-not_scripted explains content name (Wrong told) errors status wrong said = inl (wrong.0, wrong.1, told.items, wrong.2, said.0, said.1)
-not_scripted explains content name Memory errors status any memory = inr (inr memory)
-
--- ---- the end of a run
-
--- a hub stands where its own run does
-stands_itself : (h : Kept) → IsHubAt h.course.program h.budget h.course.items (run_of h.course) h
-stands_itself h = record { program = refl; budget_is = refl; items_are = refl; run_is = refl }
-
--- all was told of it, and then how it ended
-pub closed_hub : (asked : PlainAsked) (h : Kept) (closing : PlainClosing) (reports : List PlainReport) (output : Counted) (a b d : Option (List ℕ)) (before broke after failed status : ℕ) →
-    IsClosing asked h closing → IsTold reports (whole_output h.budget (run_of h.course)) output (counted_stream a b before broke) →
-    SaysEnd closing.words (counted_stream b d after failed) → status ≡ closing.status →
-    IsClosed asked h.course.program h.course.items reports h.budget (run_of h.course) output (counted_stream a d after failed) status
-closed_hub asked h closing reports output a b d before broke after failed status is told said ends = (
-  h,
-  stands_itself h,
-  closing,
-  is,
-  closed_behind a b d closing.words reports (whole_output h.budget (run_of h.course)) output before broke after failed told said,
-  ends,
-)
-
--- ---- replay
-
-pub not_scheduled : (asked : PlainAsked) (p : List (PlainItem ℕ)) (watch : Option ℕ) (content : Content) (name : List ℕ) (why : Refusal) (output errors : Counted) (status : ℕ) →
-    IsNotRun asked.subject p content why → RefusalOutcome (is_some asked.subject) name why 3 errors status → IsIdle output →
-    ScheduleOutcome asked p watch name content output errors status
-not_scheduled asked p watch content name (Unread why) output errors status may (inl told) idle = inr (inl (may, (why, told.0), told.1), idle)
-not_scheduled asked p watch content name (Unread why) output errors status may (inr memory) idle = inr (inr memory, idle)
-not_scheduled asked p watch content name (Wrong told) output errors status wrong said idle =
-    inl (wrong.0, wrong.1, inr (told.items, wrong.2, said.0, said.1, idle))
-not_scheduled asked p watch content name Memory output errors status any memory idle = inr (inr memory, idle)
-
--- what was told of a hub was told of the run of a program where it stands
-closed_of : (asked : PlainAsked) (p : List (PlainItem ℕ)) (budget : ℕ) (items : List Item) (h : Kept) (output errors : Counted) (status : ℕ) →
-    h.course.program ≡ p → h.budget ≡ budget → h.course.items ≡ items →
-    IsClosed asked h.course.program h.course.items h.reports h.budget (run_of h.course) output errors status →
-    IsClosed asked p items h.reports budget (run_of h.course) output errors status
-closed_of asked p budget items h output errors status program budget_is items_are closed =
-    subst (λ (b : ℕ). IsClosed asked p items h.reports b (run_of h.course) output errors status) budget_is
-    (subst (λ (ts : List Item). IsClosed asked p ts h.reports h.budget (run_of h.course) output errors status) items_are
-    (subst (λ (q : List (PlainItem ℕ)). IsClosed asked q h.course.items h.reports h.budget (run_of h.course) output errors status) program closed))
-
-pub scheduled : (asked : PlainAsked) (p : List (PlainItem ℕ)) (watch : Option ℕ) (name : List ℕ) (content : Content) (h : Kept) (output errors : Counted) (status : ℕ) →
-    IsHubOf p watch content h → ReplayTold asked h output errors status → ScheduleOutcome asked p watch name content output errors status
-scheduled asked p watch name content h output errors status found (run, told) =
-    let plan = found.2.0 in
-    let made = found.2.3 in
-    let r = run_of h.course in
-    let due : AllReported watch plan.items h.reports =
-    subst (λ (ts : List Item). AllReported watch ts h.reports) made.items_are
-    (subst (λ (w : Option ℕ). AllReported w h.course.items h.reports) made.watch_is made.none_due) in
-    inl (
-      found.0,
-      found.1,
-      inl (
-        plan,
-        found.2.1,
-        (
-          found.2.2,
-          (
-            h.reports,
-            r,
-            run_is p watch plan.items h made.program made.watch_is made.items_are run,
-            due,
-            told_of made.program made.budget_is made.items_are told,
-          ),
-        ),
-      ),
-    )
-  where
-    told_of : {p : List (PlainItem ℕ)} {budget : ℕ} {items : List Item} → h.course.program ≡ p → h.budget ≡ budget → h.course.items ≡ items →
-        IsClosed asked h.course.program h.course.items h.reports h.budget (run_of h.course) output errors status
-        ⊎ IsNotTold h.reports h.course.output (whole_output h.budget (run_of h.course)) output errors status →
-        IsClosed asked p items h.reports budget (run_of h.course) output errors status
-        ⊎ IsNotTold h.reports h.course.output (whole_output budget (run_of h.course)) output errors status
-    told_of {p} {budget} {items} program budget_is items_are (inl closed) = inl (closed_of asked p budget items h output errors status program budget_is items_are closed)
-    told_of program budget_is items_are (inr broke) =
-        inr (subst (λ (b : ℕ). IsNotTold h.reports h.course.output (whole_output b (run_of h.course)) output errors status) budget_is broke)
-
--- the script was run by the schedule, with the numbers of its servers
-pub replayed : (explains : Bool) (s : PlainScript) (options : ReplayOptions) (servers : List ℕ) (asked : PlainAsked) (p : List (PlainItem ℕ)) (content : Content)
-    (output errors : Counted) (status : ℕ) → first_unknown s (server_names options.end) ≡ None → servers ≡ server_numbers s (server_names options.end) → p ≡ s.program →
-    asked ≡ asked_of explains options.script.now s options.end.strict servers →
-    ScheduleOutcome asked p options.watch options.schedule.now content output errors status → OpenedReplayed explains s options content output errors status
-replayed explains s options servers asked p content output errors status known numbered program same ran =
-    inl (inl (
-      known,
-      subst (λ (a : PlainAsked). ScheduleOutcome a s.program options.watch options.schedule.now content output errors status)
-          (same ∙ ap (asked_of explains options.script.now s options.end.strict) numbered)
-          (subst (λ (q : List (PlainItem ℕ)). ScheduleOutcome asked q options.watch options.schedule.now content output errors status) program ran),
-    ))
-
-pub not_replayed : (explains : Bool) (s : PlainScript) (options : ReplayOptions) (why : Refusal) (name : List ℕ) (content : Content) (output errors : Counted) (status : ℕ) →
-    IsNotNumbered s (server_names options.end) why → RefusalOutcome explains name why 1 errors status → IsIdle output → OpenedReplayed explains s options content output errors status
-not_replayed explains s options (Unread reason) name content output errors status never said idle = absurd never
-not_replayed explains s options (Wrong told) name content output errors status wrong said idle =
-    inl (inr ((wrong.0, wrong.1, subst (λ (ts : List ℕ). Says errors ts) wrong.2 said.0, said.1), idle))
-not_replayed explains s options Memory name content output errors status any memory idle = inr (memory, idle)
-
-pub replay_ran : (explains : Bool) (held : List ℕ → Content) (s : PlainScript) (options : ReplayOptions) (output errors : Counted) (status : ℕ) →
-    IsOpened (held options.script.now) s → OpenedReplayed explains s options (held options.schedule.now) output errors status →
-    ReplayOutcome options explains held output errors status
-replay_ran explains held s options output errors status opened (inl ran) = inl (s, opened, ran)
-replay_ran explains held s options output errors status opened (inr memory) = inr (inr (inr memory.0), memory.1)
-
--- ---- run
+use Rattle.cml_host.specs.Told.{IsRunOf, AllReported, reports_text, whole_output, IsTold, OutputNotTold, IsCutOff, IsForeign}
+use Rattle.cml_host.specs.declared.close.Closing.{Closing}
+use Rattle.cml_host.proofs.ClosedLemmas.{closed_hub, run_is}
+use Rattle.cml_host.proofs.TellLemmas.{says_behind, reports_broke, cut_behind, output_behind, with_behind}
 
 -- without a record, the output is all that is told
 pub ended_alone : (r : Result (Unit {0}) ℕ) (h : Kept) (output errors : Counted) (store : Shelf) → IsUnchanged store.before store.after →
@@ -183,6 +57,11 @@ ended_kept (Ok done) name h made output a b d before broke after failed store is
     ((Appends-trans a b d [] [] told.0 saved.1, saved.2, told.2, told.3), subst (λ (ts : List ℕ). IsSaved store.before store.after name ts) is.0 saved.0)
 ended_kept (Err status) name h made output a b d before broke after failed store is told saved = tt
 
+-- what was told of a file that was not saved, behind all else
+unsaved_behind : (explains : Bool) (name : List ℕ) (a b d : Option (List ℕ)) (after failed : ℕ) → Takes (stream a b) [] →
+    TellsUnsaved explains name [] (counted_stream b d after failed) → TellsUnsaved explains name [] (counted_stream a d after failed)
+unsaved_behind explains name a b d after failed before told = (told.0, told.1, says_behind a b d after failed [] told.0 before told.2)
+
 pub not_kept : (r : Result (Unit {0}) ℕ) (explains : Bool) (name : List ℕ) (h : Kept) (output : Counted) (a b d : Option (List ℕ)) (before broke after failed : ℕ) (store : Shelf) →
     IsTold [] (whole_output h.budget (run_of h.course)) output (counted_stream a b before broke) →
     IfErr r (IsNotKept explains name (counted_stream b d after failed) store) →
@@ -192,7 +71,7 @@ not_kept (Err status) explains name h output a b d before broke after failed sto
     inl (
       told.2,
       told.3,
-      (refused.1.0, says_behind a b d after failed [] _ told.0 refused.1.1),
+      unsaved_behind explains name a b d after failed told.0 refused.1,
       refused.2,
       refused.0,
     )
@@ -208,10 +87,10 @@ recorded_then old mid new (Some name) schedule saved same =
     }
 
 -- and then its picture, and how it ended was said
-pub kept_ran : (asked : PlainAsked) (schedule : Option (List ℕ)) (wanted : Option PlainWanted) (h : Kept) (closing : PlainClosing) (picture : Picture) (output : Counted)
+pub kept_ran : (asked : PlainAsked) (schedule wanted : Option (List ℕ)) (h : Kept) (closing : Closing) (picture : Picture) (output : Counted)
     (a b d : Option (List ℕ)) (before broke after failed : ℕ) (old mid new : List ℕ → Content) (status : ℕ) → IsClosing asked h closing → IsPictureFor wanted h picture →
     IsEnded schedule h output (counted_stream a b before broke) (record { before = old; after = mid }) →
-    PictureKept (is_some asked.subject) picture closing (counted_stream b d after failed) (record { before = mid; after = new }) status →
+    PictureKept closing picture (counted_stream b d after failed) (record { before = mid; after = new }) status →
     EndedOutcome asked (record { schedule = schedule; picture = wanted }) h [] output (counted_stream a d after failed) (record { before = old; after = new }) status
 kept_ran asked schedule None h closing drawing.Unasked output a b d before broke after failed old mid new status is none ended kept =
     inl (inl (closed_hub asked h closing [] output a b d before broke after failed status is ended.0 kept.0.0 kept.0.1, (mid, ended.1, kept.1)))
@@ -224,14 +103,13 @@ kept_ran asked schedule (Some wanted) h closing (drawing.Drawn name drawn) outpu
       (mid, ended.1, (drawn.bytes.items, made.1, subst (λ (n : List ℕ). IsSaved mid new n drawn.bytes.items) made.0 kept.0)),
     ))
 kept_ran asked schedule (Some wanted) h closing (drawing.Drawn name drawn) output a b d before broke after failed old mid new status is made ended (inr kept) =
+    let told : TellsUnsaved asked.explains wanted [] (counted_stream b d after failed) =
+    subst (λ (e : Bool). TellsUnsaved e wanted [] (counted_stream b d after failed)) is.words
+    (subst (λ (n : List ℕ). TellsUnsaved (is_some closing.words) n [] (counted_stream b d after failed)) made.0 kept.0) in
     inl (inr (inr (inl (
       ended.0.2,
       ended.0.3,
-      inr (
-        kept.0.0,
-        subst (λ (n : List ℕ). Says (counted_stream a d after failed) (unsaved_told (is_some asked.subject) n kept.0.0)) made.0
-            (says_behind a b d after failed [] _ ended.0.0 kept.0.1),
-      ),
+      inr (unsaved_behind asked.explains wanted a b d after failed ended.0.0 told),
       kept.1,
       recorded_then old mid new schedule (schedule_text h.budget (size_of h.course.program) h.course.items) ended.1 kept.2,
     ))))
@@ -239,51 +117,56 @@ kept_ran asked schedule (Some wanted) h closing drawing.TooMany output a b d bef
     inl (inr (inr (inl (
       ended.0.2,
       ended.0.3,
-      inl (made, says_behind a b d after failed [] _ ended.0.0 kept.0),
+      inl (made, (kept.0.0, says_behind a b d after failed [] _ ended.0.0 kept.0.1)),
       kept.1,
       recorded_then old mid new schedule (schedule_text h.budget (size_of h.course.program) h.course.items) ended.1 kept.2,
     ))))
 
 pub not_ended_ran : (asked : PlainAsked) (saving : PlainSaving) (h : Kept) (output errors : Counted) (store : Shelf) (status : ℕ) →
-    IsNotEnded (is_some asked.subject) saving.schedule h output errors store status → EndedOutcome asked saving h [] output errors store status
+    IsNotEnded asked.explains saving.schedule h output errors store status → EndedOutcome asked saving h [] output errors store status
 not_ended_ran asked saving h output errors store status (inl broke) = inl (inr (inl broke))
 not_ended_ran asked saving h output errors store status (inr (inl broke, same)) = inl (inr (inr (inr (broke, same))))
 not_ended_ran asked saving h output errors store status (inr (inr cut, same)) = inr (cut, same)
+
+-- what was told of a file that was not saved, behind the reports
+tells_behind : (explains : Bool) (name : List ℕ) (a b d : Option (List ℕ)) (reports : List PlainReport) (calls failed : ℕ) → Takes (stream a b) (reports_text reports) →
+    TellsUnsaved explains name [] (counted_stream b d calls failed) → TellsUnsaved explains name (reports_text reports) (counted_stream a d calls failed)
+tells_behind explains name a b d reports calls failed before told = (told.0, told.1, says_behind a b d calls failed (reports_text reports) told.0 before told.2)
 
 record_broke_behind : (explains : Bool) (name : Option (List ℕ)) (a b d : Option (List ℕ)) (reports : List PlainReport) (text : List ℕ) (output : Counted) (calls failed : ℕ)
     (store : Shelf) (status : ℕ) → Takes (stream a b) (reports_text reports) → RecordBroke explains name [] text output (counted_stream b d calls failed) store status →
     RecordBroke explains name reports text output (counted_stream a d calls failed) store status
 record_broke_behind explains None a b d reports text output calls failed store status before broke = absurd broke
 record_broke_behind explains (Some name) a b d reports text output calls failed store status before broke =
-    (broke.0, broke.1, (broke.2.0, says_behind a b d calls failed (reports_text reports) _ before broke.2.1), broke.3, broke.4)
+    (broke.0, broke.1, tells_behind explains name a b d reports calls failed before broke.2, broke.3, broke.4)
 
-refused_behind : (explains : Bool) (wanted : Option PlainWanted) (p : List (PlainItem ℕ)) (budget : ℕ) (items : List Item) (a b d : Option (List ℕ)) (reports : List PlainReport)
+refused_behind : (explains : Bool) (wanted : Option (List ℕ)) (p : List (PlainItem ℕ)) (budget : ℕ) (items : List Item) (a b d : Option (List ℕ)) (reports : List PlainReport)
     (calls failed : ℕ) → Takes (stream a b) (reports_text reports) →
     IsSomeAnd wanted (λ w. PictureRefused explains w p budget items [] (counted_stream b d calls failed)) →
     IsSomeAnd wanted (λ w. PictureRefused explains w p budget items (reports_text reports) (counted_stream a d calls failed))
 refused_behind explains None p budget items a b d reports calls failed before refused = absurd refused
 refused_behind explains (Some w) p budget items a b d reports calls failed before (inl long) =
-    inl (long.0, says_behind a b d calls failed (reports_text reports) _ before long.1)
+    inl (long.0, (long.1.0, says_behind a b d calls failed (reports_text reports) long.1.0 before long.1.1))
 refused_behind explains (Some w) p budget items a b d reports calls failed before (inr said) =
-    inr (said.0, says_behind a b d calls failed (reports_text reports) _ before said.1)
+    inr (tells_behind explains w a b d reports calls failed before said)
 
 -- what was told of the output, after the reports that were told before
 pub ended_behind : (asked : PlainAsked) (saving : PlainSaving) (h : Kept) (a b d : Option (List ℕ)) (output : Counted) (calls failed : ℕ) (store : Shelf) (status : ℕ) →
     Takes (stream a b) (reports_text h.reports) → EndedOutcome asked saving h [] output (counted_stream b d calls failed) store status →
     EndOutcome asked saving h.course.program h.course.items h.reports h.budget (run_of h.course) output (counted_stream a d calls failed) store status
     ⊎ (IsCutOff h.reports h.course.output output (counted_stream a d calls failed) status × IsUnchanged store.before store.after)
-ended_behind asked saving h a b d output calls failed store status before (inl (inl ((hub, at, closing, is, told, ends), saved))) =
+ended_behind asked saving h a b d output calls failed store status before (inl (inl ((hub, at, told, ends), saved))) =
     inl (inl (
-      (hub, at, closing, is, with_behind a b d closing.words h.reports (whole_output h.budget (run_of h.course)) output calls failed before told, ends),
+      (hub, at, with_behind a b d asked.explains h.reports (whole_output h.budget (run_of h.course)) output calls failed before told, ends),
       saved,
     ))
 ended_behind asked saving h a b d output calls failed store status before (inl (inr (inl broke))) =
-    inl (inr (inl (record_broke_behind (is_some asked.subject) saving.schedule a b d h.reports (whole_output h.budget (run_of h.course)) output calls failed store status before broke)))
+    inl (inr (inl (record_broke_behind asked.explains saving.schedule a b d h.reports (whole_output h.budget (run_of h.course)) output calls failed store status before broke)))
 ended_behind asked saving h a b d output calls failed store status before (inl (inr (inr (inl broke)))) =
     inl (inr (inr (inl (
       broke.0,
       broke.1,
-      refused_behind (is_some asked.subject) saving.picture h.course.program h.budget h.course.items a b d h.reports calls failed before broke.2,
+      refused_behind asked.explains saving.picture h.course.program h.budget h.course.items a b d h.reports calls failed before broke.2,
       broke.3,
       broke.4,
     ))))
@@ -395,97 +278,17 @@ stopped_ran asked saving p options begun stopped a b d output before broke calls
     go (inl cut) = inr (inl (cut, same))
     go (inr live) = inr (inr (live.0, live.1, same))
 
-pub starts_itself : (p : List (PlainItem ℕ)) (budget : ℕ) (watch : Option ℕ) (h : Kept) → IsAtStart p budget watch h → IsAtStart h.course.program budget watch h
-starts_itself p budget watch h begins =
-    record { program = refl; budget_is = begins.budget_is; watch_is = begins.watch_is; items = begins.items; reports = begins.reports; none_out = begins.none_out; queue = begins.queue }
-
--- ---- a store that was read first
-
-recorded_behind : (old mid new : List ℕ → Content) (name : Option (List ℕ)) (schedule : List ℕ) → IsUnchanged old mid →
-    IsRecorded name schedule (record { before = mid; after = new }) → IsRecorded name schedule (record { before = old; after = new })
-recorded_behind old mid new None schedule same kept = λ n. kept n ∙ same n
-recorded_behind old mid new (Some name) schedule same saved =
-    record {
-      saved = subst (λ (content : Content). IsReplacedBy content (new name) schedule) (same name) saved.saved;
-      others = λ other differs. saved.others other differs ∙ same other;
-    }
-
-broke_behind : (old mid new : List ℕ → Content) (explains : Bool) (name : Option (List ℕ)) (reports : List PlainReport) (text : List ℕ) (output errors : Counted) (status : ℕ) →
-    IsUnchanged old mid → RecordBroke explains name reports text output errors (record { before = mid; after = new }) status →
-    RecordBroke explains name reports text output errors (record { before = old; after = new }) status
-broke_behind old mid new explains None reports text output errors status same broke = absurd broke
-broke_behind old mid new explains (Some name) reports text output errors status same broke =
-    (broke.0, broke.1, broke.2, broke.3, λ n. broke.4 n ∙ same n)
-
-end_behind : (old mid new : List ℕ → Content) (asked : PlainAsked) (saving : PlainSaving) (p : List (PlainItem ℕ)) (items : List Item) (reports : List PlainReport)
-    (budget : ℕ) (r : Run) (output errors : Counted) (status : ℕ) → IsUnchanged old mid →
-    EndOutcome asked saving p items reports budget r output errors (record { before = mid; after = new }) status →
-    EndOutcome asked saving p items reports budget r output errors (record { before = old; after = new }) status
-end_behind old mid new asked saving p items reports budget r output errors status same (inl told) =
-    inl (told.0, (told.1.0, recorded_behind old mid told.1.0 saving.schedule (schedule_text budget (size_of p) items) same told.1.1, told.1.2))
-end_behind old mid new asked saving p items reports budget r output errors status same (inr (inl broke)) =
-    inr (inl (broke_behind old mid new (is_some asked.subject) saving.schedule reports (whole_output budget r) output errors status same broke))
-end_behind old mid new asked saving p items reports budget r output errors status same (inr (inr (inl broke))) =
-    inr (inr (inl (
-      broke.0,
-      broke.1,
-      broke.2,
-      broke.3,
-      recorded_behind old mid new saving.schedule (schedule_text budget (size_of p) items) same broke.4,
-    )))
-end_behind old mid new asked saving p items reports budget r output errors status same (inr (inr (inr broke))) =
-    inr (inr (inr (broke.0, λ n. broke.1 n ∙ same n)))
-
-program_behind : (old mid new : List ℕ → Content) (asked : PlainAsked) (saving : PlainSaving) (p : List (PlainItem ℕ)) (options : RunOptions) (output errors : Counted) (status : ℕ) →
-    IsUnchanged old mid → ProgramOutcome asked saving p options output errors (record { before = mid; after = new }) status →
-    ProgramOutcome asked saving p options output errors (record { before = old; after = new }) status
-program_behind old mid new asked saving p options output errors status same (items, reports, r, run, exchanges, inl ended) = (
-  items,
-  reports,
-  r,
-  run,
-  exchanges,
-  inl (
-    ended.0,
-    end_behind old mid new asked saving p items reports options.steps r output errors status same ended.1,
-    ended.2,
-  ),
-)
-program_behind old mid new asked saving p options output errors status same (items, reports, r, run, exchanges, inr (inl cut)) =
-    (items, reports, r, run, exchanges, inr (inl (cut.0, λ n. cut.1 n ∙ same n)))
-program_behind old mid new asked saving p options output errors status same (items, reports, r, run, exchanges, inr (inr live)) =
-    (items, reports, r, run, exchanges, inr (inr (live.0, live.1, λ n. live.2 n ∙ same n)))
-
 -- the script was run, with the numbers of its servers
 pub opened_ran : (explains : Bool) (s : PlainScript) (options : RunOptions) (servers : List ℕ) (asked : PlainAsked) (saving : PlainSaving) (p : List (PlainItem ℕ)) (output errors : Counted)
     (store : Shelf) (status : ℕ) → first_unknown s (server_names options.end) ≡ None → servers ≡ server_numbers s (server_names options.end) → p ≡ s.program →
-    asked ≡ asked_of explains options.file.now s options.end.strict servers → saving ≡ saving_of options s → BegunOutcome asked saving p options output errors store status →
-    OpenedOutcome explains s options output errors store status
+    asked ≡ record { explains = explains; strict = options.end.strict; servers = servers } → saving ≡ saving_of options → BegunOutcome asked saving p options output errors store status →
+    ScriptOutcome explains s options output errors store status
 opened_ran explains s options servers asked saving p output errors store status known numbered program same saves (inl ran) =
-    inl (inl (
+    let asks : asked ≡ run_asked options explains s = same ∙ ap (λ (ns : List ℕ). record { explains = explains; strict = options.end.strict; servers = ns }) numbered in
+    inl (
       known,
-      subst (λ (a : PlainAsked). ProgramOutcome a (saving_of options s) s.program options output errors store status)
-          (same ∙ ap (asked_of explains options.file.now s options.end.strict) numbered)
+      subst (λ (a : PlainAsked). ProgramOutcome a (saving_of options) s.program options output errors store status) asks
           (subst (λ (v : PlainSaving). ProgramOutcome asked v s.program options output errors store status) saves
           (subst (λ (q : List (PlainItem ℕ)). ProgramOutcome asked saving q options output errors store status) program ran)),
-    ))
-opened_ran explains s options servers asked saving p output errors store status known numbered program same saves (inr memory) = inr memory
-
-pub not_numbered_ran : (explains : Bool) (s : PlainScript) (options : RunOptions) (why : Refusal) (name : List ℕ) (output errors : Counted) (store : Shelf) (status : ℕ) →
-    IsNotNumbered s (server_names options.end) why → RefusalOutcome explains name why 1 errors status → IsIdle output → IsUnchanged store.before store.after →
-    OpenedOutcome explains s options output errors store status
-not_numbered_ran explains s options (Unread reason) name output errors store status never said idle same = absurd never
-not_numbered_ran explains s options (Wrong told) name output errors store status wrong said idle same =
-    inl (inr ((wrong.0, wrong.1, subst (λ (ts : List ℕ). Says errors ts) wrong.2 said.0, said.1), idle, same))
-not_numbered_ran explains s options Memory name output errors store status any memory idle same = inr (memory, idle, same)
-
--- the script that was opened was run, or memory ran out before
-pub run_ran : (old mid new : List ℕ → Content) (s : PlainScript) (options : RunOptions) (explains : Bool) (output errors : Counted) (status : ℕ) →
-    IsUnchanged old mid → IsOpened (old options.file.now) s → OpenedOutcome explains s options output errors (record { before = mid; after = new }) status →
-    RunOutcome options explains output errors (record { before = old; after = new }) status
-run_ran old mid new s options explains output errors status same opened (inl (inl (known, ran))) =
-    inl (s, opened, inl (known, program_behind old mid new _ _ s.program options output errors status same ran))
-run_ran old mid new s options explains output errors status same opened (inl (inr (none, idle, kept))) =
-    inl (s, opened, inr (none, idle, λ n. kept n ∙ same n))
-run_ran old mid new s options explains output errors status same opened (inr memory) =
-    inr (inr (inr memory.0), memory.1, λ n. memory.2 n ∙ same n)
+    )
+opened_ran explains s options servers asked saving p output errors store status known numbered program same saves (inr memory) = inr (inr memory.0, memory.1)

@@ -1,5 +1,5 @@
 -- What was written of several texts, one after another.
-use Rattle.std.proofs.Common.{◌≡◌, ◌∙◌, ◌⊎◌, ℕ, List, [], ◌++◌, Option, Some, None, length, sym, ap, subst, inl, inr, append_assoc, append-nil}
+use Rattle.std.proofs.Common.{◌≡◌, ◌∙◌, ◌⊎◌, ℕ, Bool, true, false, List, [], ◌++◌, Option, length, sym, ap, subst, inl, inr, append_assoc, append-nil}
 use Rattle.std.proofs.KnownBytes.{Appends-trans}
 use Rattle.cml_hub.specs.declared.fault.End.{End}
 use Rattle.cml_hub.specs.Runs.{Run, ending}
@@ -7,9 +7,10 @@ use Rattle.cml_monitor.specs.Reports.{PlainReport}
 use Rattle.cml_scan.specs.World.{pending}
 use Rattle.cml_stream.specs.Streams.{Counted, stream, counted_stream, Takes, TakesStart, Says, IsIdle}
 use Rattle.cml_host.specs.Closed.{SaysEnd}
-use Rattle.cml_host.specs.Told.{reports_text, end_line, whole_output, cannot_write, SaysAfter, SaysStill, Breaks}
+use Rattle.cml_host.specs.Told.{reports_text, end_line, whole_output, SaysAfter, SaysStill, Breaks}
 use Rattle.cml_host.specs.Told.{ReportsBroke, MemoryBroke, OutputBroke, OutputNotTold, IsTold, IsToldWith}
 use Rattle.cml_host.specs.Told.{IsNotTold, IsCutOff}
+use Rattle.cml_host.specs.Written.{cannot_write}
 
 -- a text, and then a prefix of one more
 pub start_behind : (a b c : Option (List ℕ)) (text more : List ℕ) →
@@ -86,23 +87,23 @@ says_after a b c calls failed before told first (inl whole) = inl (Appends-trans
 says_after a b c calls failed before told first (inr part) =
     inr (part.0.0, part.0.1, part.0.2, Appends-trans a b c before part.0.0 first part.0.3, part.1)
 
-pub closed_behind : (a b c : Option (List ℕ)) (words : Option (List ℕ)) (reports : List PlainReport) (text : List ℕ) (output : Counted) (before broke calls failed : ℕ) →
-    IsTold reports text output (counted_stream a b before broke) → SaysEnd words (counted_stream b c calls failed) →
-    IsToldWith words reports text output (counted_stream a c calls failed)
-closed_behind a b c None reports text output before broke calls failed told said =
+pub closed_behind : (a b c : Option (List ℕ)) (explains : Bool) (reports : List PlainReport) (text : List ℕ) (output : Counted) (before broke calls failed : ℕ) →
+    IsTold reports text output (counted_stream a b before broke) → SaysEnd explains (counted_stream b c calls failed) →
+    IsToldWith explains reports text output (counted_stream a c calls failed)
+closed_behind a b c false reports text output before broke calls failed told said =
     (subst (λ (ts : List ℕ). Takes (stream a c) ts) (append-nil (reports_text reports)) (Appends-trans a b c (reports_text reports) [] told.0 said.0), said.1, told.2, told.3)
-closed_behind a b c (Some words) reports text output before broke calls failed told said =
-    (says_after a b c calls failed (reports_text reports) words told.0 said, told.2, told.3)
+closed_behind a b c true reports text output before broke calls failed told said =
+    ((said.0, says_after a b c calls failed (reports_text reports) said.0 told.0 said.1), told.2, told.3)
 
 -- all that was told of a run, after its reports
-pub with_behind : (a b c : Option (List ℕ)) (words : Option (List ℕ)) (reports : List PlainReport) (text : List ℕ) (output : Counted) (calls failed : ℕ) →
-    Takes (stream a b) (reports_text reports) → IsToldWith words [] text output (counted_stream b c calls failed) →
-    IsToldWith words reports text output (counted_stream a c calls failed)
-with_behind a b c None reports text output calls failed before told = told_behind a b c reports text output calls failed before told
-with_behind a b c (Some words) reports text output calls failed before (inl whole, took, fine) =
-    (inl (Appends-trans a b c (reports_text reports) words before whole.0, whole.1), took, fine)
-with_behind a b c (Some words) reports text output calls failed before (inr part, took, fine) =
-    (inr (part.0, part.1, part.2, Appends-trans a b c (reports_text reports) part.0 before part.3, part.4), took, fine)
+pub with_behind : (a b c : Option (List ℕ)) (explains : Bool) (reports : List PlainReport) (text : List ℕ) (output : Counted) (calls failed : ℕ) →
+    Takes (stream a b) (reports_text reports) → IsToldWith explains [] text output (counted_stream b c calls failed) →
+    IsToldWith explains reports text output (counted_stream a c calls failed)
+with_behind a b c false reports text output calls failed before told = told_behind a b c reports text output calls failed before told
+with_behind a b c true reports text output calls failed before ((words, inl whole), took, fine) =
+    ((words, inl (Appends-trans a b c (reports_text reports) words before whole.0, whole.1)), took, fine)
+with_behind a b c true reports text output calls failed before ((words, inr part), took, fine) =
+    ((words, inr (part.0, part.1, part.2, Appends-trans a b c (reports_text reports) part.0 before part.3, part.4)), took, fine)
 
 -- the output with the end line
 pub whole_is : (out told : List ℕ) (end : End) (waiting budget : ℕ) (r : Run) → out ≡ r.output → told ≡ end_line end waiting →

@@ -1,38 +1,36 @@
 -- The command `explore`: what is told of many runs of a script, what is shown meanwhile, and what is saved of them.
-use Rattle.std.specs.Prelude.{◌≡◌, ◌⊎◌, ℕ, zero, suc, ◌+◌, ◌-◌, ◌*◌, ◌/◌, ◌<◌, ◌==◌, Bool, true, if◌then◌else◌, List, [], ◌∷◌, ◌++◌, map, codes, Option, Some, None, option_and_then, option_map, slice_get}
+use Rattle.std.specs.Prelude.{◌≡◌, ◌⊎◌, ℕ, suc, ◌*◌, ◌/◌, Bool, true, false, if◌then◌else◌, List, [], ◌∷◌, ◌++◌, map, codes, Option, Some, None, option_and_then, option_map, slice_get}
 use Rattle.std.specs.Fmt.{decimal}
 use Rattle.std.specs.Option.{option_map_or}
 use Rattle.std.specs.String.{string_bytes}
 use Rattle.cml_check.specs.Sizes.{size_of}
 use Rattle.cml_check.specs.Syntax.{Name, PlainItem}
-use Rattle.cml_explore.specs.Answers.{IsToldOfRuns}
 use Rattle.cml_explore.specs.Classes.{PlainClass}
-use Rattle.cml_explore.specs.Explored.{PlainExplored, IsExplored, HasMade}
+use Rattle.cml_explore.specs.Explored.{PlainExplored, IsExplored}
 use Rattle.cml_explore.specs.Ranks.{AreInRank}
 use Rattle.cml_explore.specs.declared.explored.Asked.{Asked}
 use Rattle.cml_explore.specs.declared.explored.Until.{Until}
-use Rattle.cml_explore.specs.declared.order.Order.{Order}
-use Rattle.cml_explore.specs.declared.order.Order.TheVariants as by
+use Rattle.cml_seed.specs.declared.order.Order.{Order}
+use Rattle.cml_seed.specs.declared.order.Order.TheVariants as by
 use Rattle.cml_explore.specs.declared.explored.Until.TheVariants as stop
 use Rattle.cml_schedule.specs.Written.{schedule_text}
 use Rattle.cml_schedule.specs.declared.item.Item.{Item}
-use Rattle.cml_stream.specs.Streams.{Counted, Stream, IsIdle, Says, Takes, TakesStart}
+use Rattle.cml_stream.specs.Streams.{Counted, Stream, Says, Takes}
 use Rattle.cml_text.specs.Lines.{line}
 use Rattle.cml_arguments.specs.Words.{saved_name, until_named}
 use Rattle.cml_arguments.specs.declared.ExploreOptions.{ExploreOptions}
 use Rattle.cml_arguments.specs.declared.Until.TheVariants as word
 use Rattle.cml_arguments.specs.declared.Until as words
-use Rattle.cml_host.specs.Running.{unsaved_told}
-use Rattle.cml_host.specs.Said.{MemoryOutcome}
+use Rattle.cml_host.specs.Narrated.{Writes, broken_by}
+use Rattle.cml_host.specs.Refused.{Fault, IsUnsaved, LeavesAll, MemoryOutcome, RefusedBy}
 use Rattle.cml_host.specs.Scripts.{PlainScript, IsOpened, NoScriptOutcome}
-use Rattle.cml_host.specs.Servers.{NoFunctionOutcome, first_unknown, server_numbers}
+use Rattle.cml_host.specs.Servers.{IsNoFunction, first_unknown, server_numbers}
 use Rattle.cml_host.specs.Stores.{Content, Shelf, IsSaved, IsUnchanged}
-use Rattle.cml_host.specs.Told.{SaysAfter, cannot_write}
+use Rattle.cml_host.specs.Told.{SaysAfter}
+use Rattle.cml_host.specs.Written.{cannot_write}
 use Rattle.cml_host.specs.declared.explain.Halt.{Halt}
-use Rattle.cml_host.specs.declared.explain.Halt.TheVariants.{Memory, Write}
 use Rattle.cml_host.specs.declared.explore.Unsaved.{Unsaved}
 use Rattle.cml_host.specs.declared.explore.Unsaved.TheVariants as unsaved
-use Rattle.cml_host.specs.declared.reason.Reason.{Reason}
 
 -- ---- what is asked for
 
@@ -73,32 +71,18 @@ pub record AsksForRuns (options : ExploreOptions) (servers : List ℕ) (asked : 
 abbrev pub percent : ℕ → ℕ → ℕ
 percent runs count = (count * 100) / runs
 
--- the line that tells how far it is, which the next one is written over
-abbrev pub progress_line : ℕ → ℕ → List ℕ
-progress_line runs count = 13 ∷ (decimal count ++ (codes " of " ++ (decimal runs ++ codes " runs")))
+-- this may be shown meanwhile: any words, on a terminal; elsewhere nothing
+abbrev pub MayShow : Bool → List ℕ → Type 0
+MayShow true shown = Unit {0}
+MayShow false shown = shown ≡ []
 
--- what is shown when so many runs were made, of so many: the line, where it is a percent more
-abbrev pub shown_at : ℕ → ℕ → List ℕ
-shown_at runs count = if percent runs (count - 1) == percent runs count then [] else progress_line runs count
+-- that was written, and no write failed
+abbrev pub ShowsMarks : Bool → Stream → Type 0
+ShowsMarks shows errors = (shown : List ℕ) × MayShow shows shown × Takes errors shown
 
--- what is shown from the first to this run
-abbrev pub shown_to : ℕ → ℕ → List ℕ
-shown_to runs zero = []
-shown_to runs (suc count) = shown_to runs count ++ shown_at runs (suc count)
-
--- what a terminal is told to take the line away: to go to its beginning, and to erase it
-abbrev pub erasure : List ℕ
-erasure = 13 ∷ 27 ∷ 91 ∷ 75 ∷ []
-
--- the same where it is shown, on a terminal; elsewhere nothing
-abbrev pub shown_so_far : Bool → ℕ → ℕ → List ℕ
-shown_so_far shows runs count = if shows then shown_to runs count else []
-
-abbrev pub erased : Bool → List ℕ
-erased shows = if shows then erasure else []
-
-abbrev pub shown_in_all : Bool → ℕ → ℕ → List ℕ
-shown_in_all shows runs count = shown_so_far shows runs count ++ erased shows
+-- what was shown, then this was said
+abbrev pub SaysShowing : Bool → Counted → List ℕ → Type 0
+SaysShowing shows errors told = (shown : List ℕ) × MayShow shows shown × SaysAfter errors shown told
 
 -- ---- what is saved
 
@@ -109,7 +93,7 @@ pub record File : Type 0 where
 
 -- the shortest schedule of the class of this number
 abbrev pub shortest_of : List PlainClass → ℕ → List Item
-shortest_of classes number = option_map_or (λ c. c.tally.shortest) (slice_get classes number) []
+shortest_of classes number = option_map_or (λ c. c.summary.shortest) (slice_get classes number) []
 
 -- the file of the class of this number, which comes in this place in the answer, counted from 1
 abbrev pub file_of : Name → ℕ → List (PlainItem ℕ) → List PlainClass → ℕ → ℕ → File
@@ -140,23 +124,25 @@ abbrev pub judged : Bool → ℕ
 judged well = if well then 0 else 6
 
 -- memory ran out, which was told after what was shown
-abbrev pub RanOut : List ℕ → Counted → ℕ → Type 0
-RanOut shown errors status = SaysAfter errors shown (line (codes "memory")) × (status ≡ 5)
+abbrev pub RanOut : Bool → Counted → ℕ → Type 0
+RanOut shows errors status = SaysShowing shows errors (line (codes "memory")) × (status ≡ 5)
 
--- After the answer: all files were saved. Or the next one could not be, and the errors tell that, and why, where it is known; or memory ran out.
-abbrev pub FilesKept : List File → Bool → List ℕ → Counted → Shelf → ℕ → Type 0
-FilesKept files well shown errors store status =
-    (AreSaved files store.before store.after × Takes errors.bytes shown × (errors.counts.failed ≡ 0) × (status ≡ judged well))
+-- a file of this name could not be saved, and the errors tell that, and may tell why
+abbrev pub NameRefused : Bool → Name → Counted → ℕ → Type 0
+NameRefused shows name errors status = ((told : List ℕ) × IsUnsaved true name told × SaysShowing shows errors told) × (status ≡ 1)
+
+-- After the answer: all files were saved. Or the next one could not be, or memory ran out; and the errors tell that.
+abbrev pub FilesKept : Bool → List File → Bool → Counted → Shelf → ℕ → Type 0
+FilesKept shows files well errors store status =
+    (AreSaved files store.before store.after × ShowsMarks shows errors.bytes × (errors.counts.failed ≡ 0) × (status ≡ judged well))
     ⊎ ((done : List File) × (left : List File) × (files ≡ done ++ left) × AreSaved done store.before store.after
-    × (RanOut shown errors status
-    ⊎ ((file : File) × (more : List File) × (left ≡ file ∷ more)
-    × ((why : Option Reason) × SaysAfter errors shown (unsaved_told true file.name why)) × (status ≡ 1))))
+    × (RanOut shows errors status ⊎ ((file : File) × (more : List File) × (left ≡ file ∷ more) × NameRefused shows file.name errors status)))
 
 -- the files that are asked for were saved, as far as that could be; or memory ran out before any was
-abbrev pub ClassesKept : Option Name → ℕ → List (PlainItem ℕ) → PlainExplored → List ℕ → Counted → Shelf → ℕ → Type 0
-ClassesKept start budget p made shown errors store status =
-    ((files : List File) × AreFiles start budget p made.classes files × FilesKept files made.well shown errors store status)
-    ⊎ (RanOut shown errors status × IsUnchanged store.before store.after)
+abbrev pub ClassesKept : Bool → Option Name → ℕ → List (PlainItem ℕ) → PlainExplored → Counted → Shelf → ℕ → Type 0
+ClassesKept shows start budget p made errors store status =
+    ((files : List File) × AreFiles start budget p made.classes files × FilesKept shows files made.well errors store status)
+    ⊎ (RanOut shows errors status × IsUnchanged store.before store.after)
 
 -- ---- how it is told
 
@@ -164,34 +150,28 @@ abbrev pub saved_start : ExploreOptions → Option Name
 saved_start options = option_map (λ start. start.now) options.save
 
 -- What was made was told, after what was shown, and the files were saved, as far as that could be; or a write of the output failed.
-abbrev pub RunsTold : Option Name → ℕ → List (PlainItem ℕ) → PlainExplored → List ℕ → List ℕ → Counted → Counted → Shelf → ℕ → Type 0
-RunsTold start budget p made said shown output errors store status =
-    (Takes output.bytes said × (output.counts.failed ≡ 0) × ClassesKept start budget p made shown errors store status)
-    ⊎ (TakesStart output.bytes said × (output.counts.failed ≡ 1) × SaysAfter errors shown cannot_write × (status ≡ 1) × IsUnchanged store.before store.after)
+abbrev pub RunsTold : Bool → Option Name → ℕ → List (PlainItem ℕ) → PlainExplored → Counted → Counted → Shelf → ℕ → Type 0
+RunsTold shows start budget p made output errors store status =
+    (Writes output.bytes × (output.counts.failed ≡ 0) × ClassesKept shows start budget p made errors store status)
+    ⊎ (Writes output.bytes × (output.counts.failed ≡ 1) × SaysShowing shows errors cannot_write × (status ≡ 1) × IsUnchanged store.before store.after)
 
--- nothing was written to the output or saved
-abbrev pub LeavesAll : Counted → Shelf → Type 0
-LeavesAll output store = IsIdle output × IsUnchanged store.before store.after
+-- what is shown could not be written
+abbrev pub ShowingBroke : Bool → Counted → ℕ → Type 0
+ShowingBroke shows errors status = ShowsMarks shows errors.bytes × (errors.counts.failed ≡ 1) × (status ≡ 1)
 
--- The runs that the arguments ask for were made and told of. Or it was cut off after some runs: memory ran out, or what is shown could not be
--- written.
-abbrev pub ProgramExplored : ExploreOptions → Bool → PlainScript → List ℕ → Counted → Counted → Shelf → ℕ → Type 0
-ProgramExplored options shows s servers output errors store status =
+-- The runs that the arguments ask for were made and told of. Or it was cut off before: memory ran out, or what is shown could not be written.
+abbrev pub ProgramExplored : ExploreOptions → Bool → List (PlainItem ℕ) → List ℕ → Counted → Counted → Shelf → ℕ → Type 0
+ProgramExplored options shows p servers output errors store status =
     ((asked : Asked) × AsksForRuns options servers asked
-    × ((made : PlainExplored) × IsExplored s.program asked made
-    × ((said : List ℕ) × IsToldOfRuns options.script.now s.text s.forms s.program asked made said
-    × RunsTold (saved_start options) options.steps s.program made said (shown_in_all shows options.runs made.runs) output errors store status)))
-    ⊎ ((count : ℕ) × (RanOut (shown_in_all shows options.runs count) errors status
-    ⊎ (TakesStart errors.bytes (shown_in_all shows options.runs count) × (errors.counts.failed ≡ 1) × (status ≡ 1)))
-    × LeavesAll output store)
+    × ((made : PlainExplored) × IsExplored p asked made × RunsTold shows (saved_start options) options.steps p made output errors store status))
+    ⊎ ((RanOut shows errors status ⊎ ShowingBroke shows errors status) × LeavesAll output store)
 
--- The same of the script, where it has the functions that are named as those of servers; or it has not.
+-- The same of the script, where it has the functions that are named as those of servers; or it has not, or memory ran out before.
 abbrev pub ScriptExplored : ExploreOptions → Bool → PlainScript → Counted → Counted → Shelf → ℕ → Type 0
 ScriptExplored options shows s output errors store status =
     ((first_unknown s (explored_servers options) ≡ None)
-    × ProgramExplored options shows s (server_numbers s (explored_servers options)) output errors store status)
-    ⊎ (NoFunctionOutcome s (explored_servers options) errors status × LeavesAll output store)
-    ⊎ (MemoryOutcome errors status × LeavesAll output store)
+    × ProgramExplored options shows s.program (server_numbers s (explored_servers options)) output errors store status)
+    ⊎ (RefusedBy (IsNoFunction s (explored_servers options)) errors status × LeavesAll output store)
 
 -- `explore`: the runs of the script that lies under the name were made and told of; how far it is is shown where the errors go to a terminal. Or no
 -- script lies there, which is explained, it was not read, or memory ran out.
@@ -202,55 +182,9 @@ ExploreOutcome options terminal output errors store status =
 
 -- ---- what private functions say
 
--- What was shown of so many runs, where this is why no more were made, or a start of it.
-abbrev pub StopsShowing : Bool → ℕ → Halt → Counted → Type 0
-StopsShowing shows runs Memory errors = (count : ℕ) × Takes errors.bytes (shown_so_far shows runs count) × (errors.counts.failed ≡ 0)
-StopsShowing shows runs Write errors = (count : ℕ) × TakesStart errors.bytes (shown_so_far shows runs count) × (errors.counts.failed ≡ 1)
-
--- the same with what takes it away
-abbrev pub StopsErased : Bool → ℕ → Halt → Counted → Type 0
-StopsErased shows runs Memory errors = (count : ℕ) × Takes errors.bytes (shown_in_all shows runs count) × (errors.counts.failed ≡ 0)
-StopsErased shows runs Write errors = (count : ℕ) × TakesStart errors.bytes (shown_in_all shows runs count) × (errors.counts.failed ≡ 1)
-
--- what is shown of one run more
-abbrev pub shown_next : Bool → ℕ → ℕ → List ℕ
-shown_next shows runs count = if shows then shown_at runs count else []
-
--- nothing of a text was written, or a start of it, where this is why it was not shown
-abbrev pub NotShown : List ℕ → Halt → Counted → Type 0
-NotShown text Memory errors = Takes errors.bytes [] × (errors.counts.failed ≡ 0)
-NotShown text Write errors = TakesStart errors.bytes text × (errors.counts.failed ≡ 1)
-
--- what was shown of so many runs was followed by what is shown of more
-abbrev pub ShownFrom : Bool → ℕ → ℕ → ℕ → Stream → Type 0
-ShownFrom shows runs before count errors =
-    (more : List ℕ) × (shown_so_far shows runs count ≡ shown_so_far shows runs before ++ more) × Takes errors more
-
--- or nothing of that was written, or a start of what is shown of some more
-abbrev pub StopsBehind : Bool → ℕ → ℕ → Halt → Counted → Type 0
-StopsBehind shows runs before Memory errors = (count : ℕ) × ShownFrom shows runs before count errors.bytes × (errors.counts.failed ≡ 0)
-StopsBehind shows runs before Write errors =
-    (count : ℕ) × (more : List ℕ) × (shown_so_far shows runs count ≡ shown_so_far shows runs before ++ more)
-    × TakesStart errors.bytes more × (errors.counts.failed ≡ 1)
-
--- Some runs more were made and shown.
-pub record MadeSome (p : List (PlainItem ℕ)) (asked : Asked) (shows last : Bool) (old new : PlainExplored) (errors : Counted) : Type 0 where
-  pub made : HasMade p asked last new
-  pub more : old.runs < new.runs
-  pub shown : ShownFrom shows asked.runs old.runs new.runs errors.bytes
-  pub fine : errors.counts.failed ≡ 0
-
--- all that was asked for was made and shown
-pub record MadeAll (p : List (PlainItem ℕ)) (asked : Asked) (shows : Bool) (made : PlainExplored) (errors : Counted) : Type 0 where
-  pub explored : IsExplored p asked made
-  pub takes : Takes errors.bytes (shown_so_far shows asked.runs made.runs)
-  pub fine : errors.counts.failed ≡ 0
-
--- and what is shown was taken away
-pub record MadeErased (p : List (PlainItem ℕ)) (asked : Asked) (shows : Bool) (made : PlainExplored) (errors : Counted) : Type 0 where
-  pub explored : IsExplored p asked made
-  pub takes : Takes errors.bytes (shown_in_all shows asked.runs made.runs)
-  pub fine : errors.counts.failed ≡ 0
+-- what was shown where this is why no more runs were made
+abbrev pub StopsShowing : Bool → Halt → Counted → Type 0
+StopsShowing shows why errors = ShowsMarks shows errors.bytes × (errors.counts.failed ≡ broken_by why)
 
 -- the file was not saved, for this
 abbrev pub IsNotSaved : Name → Unsaved → Shelf → Type 0
@@ -264,18 +198,16 @@ SomeSaved files (unsaved.Refused given why) store =
     (done : List File) × (file : File) × (more : List File) × (files ≡ done ++ file ∷ more) × AreSaved done store.before store.after
     × (string_bytes given ≡ file.name)
 
--- a file of this name could not be saved, and the errors tell that, and why, where it is known; or memory ran out
-abbrev pub NameRefused : Name → Counted → ℕ → Type 0
-NameRefused name errors status = (((why : Option Reason) × Says errors (unsaved_told true name why)) × (status ≡ 1)) ⊎ MemoryOutcome errors status
+-- this tells of files that were not saved
+abbrev pub IsToldOf : Unsaved → Fault
+IsToldOf unsaved.Memory told status = ⊥
+IsToldOf (unsaved.Refused given why) told status = IsUnsaved true (string_bytes given) told × (status ≡ 1)
 
--- this was told of files that were not saved
+-- that was told, or that memory ran out
 abbrev pub UnsavedTold : Unsaved → Counted → ℕ → Type 0
-UnsavedTold unsaved.Memory errors status = MemoryOutcome errors status
-UnsavedTold (unsaved.Refused given why) errors status = NameRefused (string_bytes given) errors status
+UnsavedTold why errors status = RefusedBy (IsToldOf why) errors status
 
 -- what was made was told; or memory ran out before
-abbrev pub MadeTold : ExploreOptions → PlainScript → Asked → PlainExplored → Counted → Counted → Shelf → ℕ → Type 0
-MadeTold options s asked made output errors store status =
-    ((said : List ℕ) × IsToldOfRuns options.script.now s.text s.forms s.program asked made said
-    × RunsTold (saved_start options) options.steps s.program made said [] output errors store status)
-    ⊎ (RanOut [] errors status × LeavesAll output store)
+abbrev pub MadeTold : ExploreOptions → List (PlainItem ℕ) → PlainExplored → Counted → Counted → Shelf → ℕ → Type 0
+MadeTold options p made output errors store status =
+    RunsTold false (saved_start options) options.steps p made output errors store status ⊎ (MemoryOutcome errors status × LeavesAll output store)

@@ -1,5 +1,5 @@
 -- The command `run`: what it does with a script.
-use Rattle.std.specs.Prelude.{◌≡◌, ◌≢◌, ◌⊎◌, ℕ, ◌<◌, Bool, List, [], ◌++◌, true, codes, Option, Some, None, IsSomeAnd, is_some, length, option_map}
+use Rattle.std.specs.Prelude.{◌≡◌, ◌≢◌, ◌⊎◌, ℕ, ◌<◌, Bool, List, [], ◌++◌, true, false, codes, Option, Some, None, IsSomeAnd, is_some, length, option_map}
 use Rattle.std.specs.String.{string_bytes}
 use Rattle.cml_check.specs.Sizes.{size_of}
 use Rattle.cml_check.specs.Syntax.{PlainItem}
@@ -26,38 +26,30 @@ use Rattle.cml_host.specs.declared.workers.Cause.{Cause}
 use Rattle.cml_host.specs.declared.workers.Cause.TheVariants as cause
 use Rattle.cml_host.specs.declared.workers.Stopped.{Stopped}
 use Rattle.cml_host.specs.Stores.{Content, Shelf, IsSaved, IsUnchanged}
-use Rattle.cml_host.specs.Said.{MemoryOutcome, with_why}
-use Rattle.cml_host.specs.declared.reason.Reason.{Reason}
+use Rattle.cml_host.specs.Refused.{LeavesAll, MemoryOutcome, RefusedBy, TellsUnsaved, cannot_save}
 use Rattle.cml_host.specs.Scripts.{PlainScript, IsOpened, NoScriptOutcome}
-use Rattle.cml_host.specs.Servers.{NoFunctionOutcome, first_unknown, server_numbers, server_names}
-use Rattle.cml_host.specs.Told.{IsRunOf, AllReported, reports_text, whole_output, cannot_write, IsTold, SaysStill, OutputBroke, MemoryBroke, OutputNotTold, IsCutOff, IsForeign}
-use Rattle.cml_host.specs.Closed.{PlainAsked, PlainClosing, PlainSubject, SaysEnd, asked_of, script_as_subject, IsClosed, plain_subject}
-use Rattle.cml_host.specs.Drawn.{IsDrawnFrom, IsTooLongFrom, too_many_told}
+use Rattle.cml_host.specs.Servers.{IsNoFunction, first_unknown, server_numbers, server_names}
+use Rattle.cml_host.specs.Told.{IsRunOf, AllReported, reports_text, whole_output, IsTold, SaysStill, OutputBroke, MemoryBroke, OutputNotTold, IsCutOff, IsForeign}
+use Rattle.cml_host.specs.Closed.{PlainAsked, SaysEnd, IsClosed}
+use Rattle.cml_host.specs.Drawn.{IsDrawnFrom, IsTooLongFrom}
+use Rattle.cml_host.specs.Written.{cannot_write}
+use Rattle.cml_host.specs.declared.close.Closing.{Closing}
 use Rattle.cml_host.specs.declared.picture.Picture.{Picture}
 use Rattle.cml_host.specs.declared.picture.Picture.TheVariants as drawing
-use Rattle.cml_host.specs.declared.picture.Wanted.{Wanted}
 use Rattle.cml_host.specs.declared.run.Saving.{Saving}
 
 -- the run is over under this budget: nothing is left to do, or the budget is used; and no report is due
 abbrev pub HasEnded : ℕ → Option ℕ → List Item → List PlainReport → Run → Type 0
 HasEnded budget watch items reports r = (over budget r ≡ true) × AllReported watch items reports
 
--- a picture that is asked for: the name under which it is saved, and the script that is drawn
-pub record PlainWanted : Type 0 where
-  pub name : List ℕ
-  pub subject : PlainSubject
-
--- what is to be saved of a run: the name of its schedule, and its picture, where they are asked for
+-- what is to be saved of a run: the names of its schedule and of its picture, where they are asked for
 pub record PlainSaving : Type 0 where
   pub schedule : Option (List ℕ)
-  pub picture : Option PlainWanted
+  pub picture : Option (List ℕ)
 
--- what the arguments ask for, of a run of this script
-abbrev pub saving_of : RunOptions → PlainScript → PlainSaving
-saving_of options s = record {
-  schedule = option_map (λ name. name.now) options.record;
-  picture = option_map (λ name. record { name = name.now; subject = script_as_subject options.file.now s }) options.draw;
-}
+-- what the arguments ask for
+abbrev pub saving_of : RunOptions → PlainSaving
+saving_of options = record { schedule = option_map (λ name. name.now) options.record; picture = option_map (λ name. name.now) options.draw }
 
 -- the schedule was saved under the name, or where none was asked for nothing was
 abbrev pub IsRecorded : Option (List ℕ) → List ℕ → Shelf → Type 0
@@ -65,10 +57,10 @@ IsRecorded None schedule store = IsUnchanged store.before store.after
 IsRecorded (Some name) schedule store = IsSaved store.before store.after name schedule
 
 -- the same of the picture of these items of a run of the program, from its beginning on under this budget
-abbrev pub IsPictured : Option PlainWanted → List (PlainItem ℕ) → ℕ → List Item → Shelf → Type 0
+abbrev pub IsPictured : Option (List ℕ) → List (PlainItem ℕ) → ℕ → List Item → Shelf → Type 0
 IsPictured None p budget items store = IsUnchanged store.before store.after
-IsPictured (Some wanted) p budget items store =
-    (drawn : List ℕ) × IsDrawnFrom wanted.subject p budget items 1 (length items) drawn × IsSaved store.before store.after wanted.name drawn
+IsPictured (Some name) p budget items store =
+    (drawn : List ℕ) × IsDrawnFrom p budget items 1 (length items) drawn × IsSaved store.before store.after name drawn
 
 -- the schedule was saved, and then the picture, where they were asked for
 abbrev pub AllSaved : PlainSaving → List (PlainItem ℕ) → ℕ → List Item → Shelf → Type 0
@@ -76,33 +68,23 @@ AllSaved saving p budget items store =
     (between : List ℕ → Content) × IsRecorded saving.schedule (schedule_text budget (size_of p) items) (record { before = store.before; after = between })
     × IsPictured saving.picture p budget items (record { before = between; after = store.after })
 
--- the line that says that nothing can be saved under this name
-abbrev pub cannot_save : List ℕ → List ℕ
-cannot_save name = line (codes "cannot write " ++ name)
-
--- what is told of a file that could not be saved under this name
-abbrev pub unsaved_told : Bool → List ℕ → Option Reason → List ℕ
-unsaved_told explains name why = with_why explains name why (cannot_save name)
-
 -- all was told, but the schedule could not be saved: the errors tell that after the reports, and may tell why where it is explained
 abbrev pub RecordBroke : Bool → Option (List ℕ) → List PlainReport → List ℕ → Counted → Counted → Shelf → ℕ → Type 0
 RecordBroke explains None reports text output errors store status = ⊥
 RecordBroke explains (Some name) reports text output errors store status =
-    Takes output.bytes text × (output.counts.failed ≡ 0)
-    × ((why : Option Reason) × Says errors (reports_text reports ++ unsaved_told explains name why)) × (status ≡ 1)
+    Takes output.bytes text × (output.counts.failed ≡ 0) × TellsUnsaved explains name (reports_text reports) errors × (status ≡ 1)
     × IsUnchanged store.before store.after
 
 -- why the picture is not saved is told after this: there is too much to draw, or it could not be saved under its name
-abbrev pub PictureRefused : Bool → PlainWanted → List (PlainItem ℕ) → ℕ → List Item → List ℕ → Counted → Type 0
-PictureRefused explains wanted p budget items before errors =
-    (IsTooLongFrom wanted.subject p budget items 1 (length items) × Says errors (before ++ too_many_told))
-    ⊎ ((why : Option Reason) × Says errors (before ++ unsaved_told explains wanted.name why))
+abbrev pub PictureRefused : Bool → List ℕ → List (PlainItem ℕ) → ℕ → List Item → List ℕ → Counted → Type 0
+PictureRefused explains name p budget items before errors =
+    (IsTooLongFrom p budget items 1 (length items) × ((told : List ℕ) × Says errors (before ++ told))) ⊎ TellsUnsaved explains name before errors
 
 -- all was told, and the schedule saved where that was asked for, but the picture was not, and the errors tell why after the reports
 abbrev pub PictureBroke : Bool → PlainSaving → List (PlainItem ℕ) → List Item → List PlainReport → ℕ → Run → Counted → Counted → Shelf → ℕ → Type 0
 PictureBroke explains saving p items reports budget r output errors store status =
     Takes output.bytes (whole_output budget r) × (output.counts.failed ≡ 0)
-    × IsSomeAnd saving.picture (λ wanted. PictureRefused explains wanted p budget items (reports_text reports) errors) × (status ≡ 1)
+    × IsSomeAnd saving.picture (λ name. PictureRefused explains name p budget items (reports_text reports) errors) × (status ≡ 1)
     × IsRecorded saving.schedule (schedule_text budget (size_of p) items) store
 
 -- A run that is over was told whole, with how it ended where that was asked for, and its schedule and its picture were saved, where that was
@@ -111,8 +93,8 @@ PictureBroke explains saving p items reports budget r output errors store status
 abbrev pub EndOutcome : PlainAsked → PlainSaving → List (PlainItem ℕ) → List Item → List PlainReport → ℕ → Run → Counted → Counted → Shelf → ℕ → Type 0
 EndOutcome asked saving p items reports budget r output errors store status =
     (IsClosed asked p items reports budget r output errors status × AllSaved saving p budget items store)
-    ⊎ RecordBroke (is_some asked.subject) saving.schedule reports (whole_output budget r) output errors store status
-    ⊎ PictureBroke (is_some asked.subject) saving p items reports budget r output errors store status
+    ⊎ RecordBroke asked.explains saving.schedule reports (whole_output budget r) output errors store status
+    ⊎ PictureBroke asked.explains saving p items reports budget r output errors store status
     ⊎ (OutputBroke reports (whole_output budget r) output errors status × IsUnchanged store.before store.after)
 
 -- the reports are written while the program runs: where they are asked for, and more workers than one
@@ -141,38 +123,32 @@ ProgramOutcome asked saving p options output errors store status =
     ⊎ (IsCutOff reports r.output output errors status × IsUnchanged store.before store.after)
     ⊎ (ReportsAreLive options × IsForeign reports output errors status × IsUnchanged store.before store.after))
 
--- The script was run, where it has the functions that are named as those of servers; or it has not, and nothing was written to the output or
--- saved.
+-- what is asked of the end of a run of this script
+abbrev pub run_asked : RunOptions → Bool → PlainScript → PlainAsked
+run_asked options explains s =
+    record { explains = explains; strict = options.end.strict; servers = server_numbers s (server_names options.end) }
+
+-- The script was run, where it has the functions that are named as those of servers; or it has not, or memory ran out before, and nothing was
+-- written to the output or saved.
 abbrev pub ScriptOutcome : Bool → PlainScript → RunOptions → Counted → Counted → Shelf → ℕ → Type 0
 ScriptOutcome explains s options output errors store status =
     ((first_unknown s (server_names options.end) ≡ None)
-    × ProgramOutcome (asked_of explains options.file.now s options.end.strict (server_numbers s (server_names options.end))) (saving_of options s)
-    s.program options output errors store status)
-    ⊎ (NoFunctionOutcome s (server_names options.end) errors status × IsIdle output × IsUnchanged store.before store.after)
+    × ProgramOutcome (run_asked options explains s) (saving_of options) s.program options output errors store status)
+    ⊎ (RefusedBy (IsNoFunction s (server_names options.end)) errors status × LeavesAll output store)
 
 -- `run`: the script that lies under the name was run; or it was not (no script lies there, which may be explained, it was not read, or
 -- memory ran out), and nothing was written to the output or saved.
 abbrev pub RunOutcome : RunOptions → Bool → Counted → Counted → Shelf → ℕ → Type 0
 RunOutcome options explains output errors store status =
     ((s : PlainScript) × IsOpened (store.before options.file.now) s × ScriptOutcome explains s options output errors store status)
-    ⊎ (NoScriptOutcome explains (store.before options.file.now) options.file.now errors status
-    × IsIdle output × IsUnchanged store.before store.after)
+    ⊎ (NoScriptOutcome explains (store.before options.file.now) options.file.now errors status × LeavesAll output store)
 
 -- ---- what private functions say
-
--- memory ran out before the program began
-abbrev pub NeverBegan : Counted → Counted → Shelf → ℕ → Type 0
-NeverBegan output errors store status = MemoryOutcome errors status × IsIdle output × IsUnchanged store.before store.after
 
 -- the program was run, or memory ran out before it began
 abbrev pub BegunOutcome : PlainAsked → PlainSaving → List (PlainItem ℕ) → RunOptions → Counted → Counted → Shelf → ℕ → Type 0
 BegunOutcome asked saving p options output errors store status =
-    ProgramOutcome asked saving p options output errors store status ⊎ NeverBegan output errors store status
-
--- the same of the script
-abbrev pub OpenedOutcome : Bool → PlainScript → RunOptions → Counted → Counted → Shelf → ℕ → Type 0
-OpenedOutcome explains s options output errors store status =
-    ScriptOutcome explains s options output errors store status ⊎ NeverBegan output errors store status
+    ProgramOutcome asked saving p options output errors store status ⊎ (MemoryOutcome errors status × LeavesAll output store)
 
 -- The hub has run to its end, and its reports were written to the errors.
 abbrev pub HasRun : Kept → Kept → Counted → Type 0
@@ -266,37 +242,28 @@ IsKept name made errors store =
 
 -- or it was refused
 abbrev pub IsNotKept : Bool → List ℕ → Counted → Shelf → ℕ → Type 0
-IsNotKept explains name errors store status =
-    IsUnchanged store.before store.after × ((why : Option Reason) × Says errors (unsaved_told explains name why)) × (status ≡ 1)
+IsNotKept explains name errors store status = IsUnchanged store.before store.after × TellsUnsaved explains name [] errors × (status ≡ 1)
 
 -- ---- the same of its picture
 
-abbrev pub plain_wanted : Wanted → PlainWanted
-plain_wanted w = record { name = w.name.now; subject = plain_subject w.subject.now }
+-- a picture is saved only where the script is kept
+abbrev pub wanted_of : Option (List ℕ) → Bool → Option (List ℕ)
+wanted_of name true = name
+wanted_of name false = None
 
 abbrev pub plain_saving : Saving → PlainSaving
-plain_saving s = record { schedule = option_map (λ name. name.now) s.schedule; picture = option_map plain_wanted s.picture }
-
--- the picture of this name, where the script is kept
-abbrev pub wanted_of : Option (List ℕ) → Option PlainSubject → Option PlainWanted
-wanted_of None kept = None
-wanted_of (Some name) kept = option_map (λ s. record { name = name; subject = s }) kept
-
--- what is saved under these names, where the script is kept
-abbrev pub names_saved : Option (List ℕ) → Option (List ℕ) → Option PlainSubject → PlainSaving
-names_saved schedule name kept = record { schedule = schedule; picture = wanted_of name kept }
+plain_saving s = record { schedule = option_map (λ name. name.now) s.schedule; picture = option_map (λ wanted. wanted.name.now) s.picture }
 
 -- the picture of the run of a hub, or none where there is too much to draw
-abbrev pub IsRunDrawn : PlainSubject → Kept → Option (List ℕ) → Type 0
-IsRunDrawn s h (Some drawn) = IsDrawnFrom s h.course.program h.budget h.course.items 1 (length h.course.items) drawn
-IsRunDrawn s h None = IsTooLongFrom s h.course.program h.budget h.course.items 1 (length h.course.items)
+abbrev pub IsRunDrawn : Kept → Option (List ℕ) → Type 0
+IsRunDrawn h (Some drawn) = IsDrawnFrom h.course.program h.budget h.course.items 1 (length h.course.items) drawn
+IsRunDrawn h None = IsTooLongFrom h.course.program h.budget h.course.items 1 (length h.course.items)
 
--- what there is to save of the picture that is asked for
-abbrev pub IsPictureFor : Option PlainWanted → Kept → Picture → Type 0
+-- what there is to save of the picture that is asked for under a name
+abbrev pub IsPictureFor : Option (List ℕ) → Kept → Picture → Type 0
 IsPictureFor None h drawing.Unasked = Unit {0}
-IsPictureFor (Some wanted) h (drawing.Drawn name made) =
-    (name.now ≡ wanted.name) × IsRunDrawn wanted.subject h (Some made.bytes.items) × IsRefusalOf name.now made
-IsPictureFor (Some wanted) h drawing.TooMany = IsRunDrawn wanted.subject h None
+IsPictureFor (Some wanted) h (drawing.Drawn name made) = (name.now ≡ wanted) × IsRunDrawn h (Some made.bytes.items) × IsRefusalOf name.now made
+IsPictureFor (Some wanted) h drawing.TooMany = IsRunDrawn h None
 IsPictureFor wanted h other = ⊥
 
 -- it can be said where it can't be saved
@@ -305,17 +272,17 @@ IsSayable (drawing.Drawn name made) = IsRefusalOf name.now made
 IsSayable other = Unit {0}
 
 -- it was said how the run ended
-abbrev pub ClosesWith : PlainClosing → Counted → ℕ → Type 0
-ClosesWith closing errors status = SaysEnd closing.words errors × (status ≡ closing.status)
+abbrev pub ClosesWith : Closing → Counted → ℕ → Type 0
+ClosesWith closing errors status = SaysEnd (is_some closing.words) errors × (status ≡ closing.status)
 
 -- the same, or it could not be saved under this name, and the errors tell that
-abbrev pub IsDrawnKept : Bool → List ℕ → List ℕ → PlainClosing → Counted → Shelf → ℕ → Type 0
-IsDrawnKept explains name drawn closing errors store status =
+abbrev pub IsDrawnKept : Closing → List ℕ → List ℕ → Counted → Shelf → ℕ → Type 0
+IsDrawnKept closing name drawn errors store status =
     (IsSaved store.before store.after name drawn × ClosesWith closing errors status)
-    ⊎ (((why : Option Reason) × Says errors (unsaved_told explains name why)) × (status ≡ 1) × IsUnchanged store.before store.after)
+    ⊎ (TellsUnsaved (is_some closing.words) name [] errors × (status ≡ 1) × IsUnchanged store.before store.after)
 
 -- The picture was saved, where there is one, and then it was said how the run ended; or why it was not.
-abbrev pub PictureKept : Bool → Picture → PlainClosing → Counted → Shelf → ℕ → Type 0
-PictureKept explains drawing.Unasked closing errors store status = ClosesWith closing errors status × IsUnchanged store.before store.after
-PictureKept explains (drawing.Drawn name made) closing errors store status = IsDrawnKept explains name.now made.bytes.items closing errors store status
-PictureKept explains drawing.TooMany closing errors store status = Says errors too_many_told × (status ≡ 1) × IsUnchanged store.before store.after
+abbrev pub PictureKept : Closing → Picture → Counted → Shelf → ℕ → Type 0
+PictureKept closing drawing.Unasked errors store status = ClosesWith closing errors status × IsUnchanged store.before store.after
+PictureKept closing (drawing.Drawn name made) errors store status = IsDrawnKept closing name.now made.bytes.items errors store status
+PictureKept closing drawing.TooMany errors store status = ((told : List ℕ) × Says errors told) × (status ≡ 1) × IsUnchanged store.before store.after

@@ -1,18 +1,60 @@
--- Scripts, as `run` and `replay` read them: the program that a text is, or why it is none.
-use Rattle.std.specs.Prelude.{◌≡◌, ◌⊎◌, ℕ, Bool, List, Some, Ok, Err}
-use Rattle.cml_text.specs.Faults.{PlainFault}
+-- Scripts, as the commands read them: the forms and the program that a text is, or why it is none.
+use Rattle.std.specs.Prelude.{◌≡◌, ◌⊎◌, ℕ, ◌++◌, Bool, List, Some, Ok, Err, codes, length}
+use Rattle.std.specs.Fmt.{decimal}
+use Rattle.cml_text.specs.Faults as text
 use Rattle.cml_text.specs.Forms.{PlainSexpr}
+use Rattle.cml_text.specs.Lines.{line}
+use Rattle.cml_text.specs.Printed.{printed}
 use Rattle.cml_text.specs.Texts.{Spells, fault_of}
-use Rattle.cml_check.specs.Faults.{PlainCheckFault}
+use Rattle.cml_text.specs.declared.fault.TextFault.TheVariants as text_fault
+use Rattle.cml_check.specs.Faults as script
 use Rattle.cml_check.specs.Shape.{shape}
 use Rattle.cml_check.specs.Syntax.{PlainItem}
+use Rattle.cml_check.specs.declared.fault.CheckFault.TheVariants as check_fault
 use Rattle.cml_step.specs.Calls.{text_of}
-use Rattle.cml_stream.specs.Streams.{Counted, Says}
-use Rattle.cml_host.specs.Stores.{Content, MayBeRefused}
-use Rattle.cml_host.specs.Said.{IsText, RefusedOutcome, text_told, script_told}
+use Rattle.cml_stream.specs.Streams.{Counted}
+use Rattle.cml_host.specs.Stores.{Content, unknown, nothing, bytes}
+use Rattle.cml_host.specs.Refused.{Fault, GivesText, IsExplained, IsUnread, RefusedBy}
 use Rattle.cml_host.specs.declared.script.Script.{Script}
-use Rattle.cml_host.specs.declared.refusal.Refusal.{Refusal}
-use Rattle.cml_host.specs.declared.refusal.Refusal.TheVariants.{Unread, Wrong, Memory}
+
+-- This is the whole text that lies there: any text, where it is not known; and none, where nothing lies there.
+abbrev pub IsWholeText : Content → List ℕ → Type 0
+IsWholeText unknown all = Unit {0}
+IsWholeText nothing all = ⊥
+IsWholeText (bytes known) all = all ≡ known
+
+-- what lies there is a text that spells these forms
+abbrev pub AreForms : Content → List PlainSexpr → Type 0
+AreForms content forms = (given : List ℕ) × IsWholeText content given × Spells given forms
+
+-- the line that tells of a fault of a text
+abbrev pub text_line : text.PlainFault → List ℕ
+text_line fault = line (text.fault_line (text_fault.At fault.kind fault.at))
+
+-- the line that tells of a fault of a script
+abbrev pub script_line : script.PlainCheckFault → List ℕ
+script_line fault = line (script.check_fault_line (check_fault.At fault.kind fault.at))
+
+-- the text spells no forms, for the fault that it has, which is told
+abbrev pub IsFaulty : Bool → List ℕ → Fault
+IsFaulty explains given told status =
+    (fault : text.PlainFault) × (fault_of given ≡ Some fault) × IsExplained explains (text_line fault) told × (status ≡ 2)
+
+-- the forms are no program, for the fault that they have, which is told
+abbrev pub IsUnshaped : Bool → List PlainSexpr → Fault
+IsUnshaped explains forms told status =
+    (fault : script.PlainCheckFault) × (shape forms ≡ Err fault) × IsExplained explains (script_line fault) told × (status ≡ 2)
+
+-- why what lies under this name spells no forms
+abbrev pub HasNoForms : Bool → List ℕ → Content → Fault
+HasNoForms explains name content told status =
+    ((given : List ℕ) × IsWholeText content given × IsFaulty explains given told status) ⊎ IsUnread explains name content told status
+
+-- or why it is no script
+abbrev pub IsNoScript : Bool → List ℕ → Content → Fault
+IsNoScript explains name content told status =
+    HasNoForms explains name content told status
+    ⊎ ((forms : List PlainSexpr) × AreForms content forms × IsUnshaped explains forms told status)
 
 -- a script: its text, its forms, and its program
 pub record PlainScript : Type 0 where
@@ -20,52 +62,44 @@ pub record PlainScript : Type 0 where
   pub forms : List PlainSexpr
   pub program : List (PlainItem ℕ)
 
--- the text spells the forms, and these are those of the program
-abbrev pub IsScript : PlainScript → Type 0
-IsScript s = Spells s.text s.forms × (shape s.forms ≡ Ok (text_of s.program))
+-- what lies there is this script: its text spells its forms, and these are those of its program
+pub record IsOpened (content : Content) (s : PlainScript) : Type 0 where
+  pub lies : IsWholeText content s.text
+  pub spelled : Spells s.text s.forms
+  pub shaped : shape s.forms ≡ Ok (text_of s.program)
 
--- what lies there is this script
-abbrev pub IsOpened : Content → PlainScript → Type 0
-IsOpened content s = IsText content s.text × IsScript s
-
--- The text under this name is no script, and this says why: it spells no forms, for the fault that it has; or its forms are no program.
-abbrev pub IsNoScript : Bool → List ℕ → List ℕ → List ℕ → Type 0
-IsNoScript explains name text told =
-    ((fault : PlainFault) × (fault_of text ≡ Some fault) × (told ≡ text_told explains name text fault))
-    ⊎ ((forms : List PlainSexpr) × Spells text forms
-    × (fault : PlainCheckFault) × (shape forms ≡ Err fault) × (told ≡ script_told explains name text forms fault))
-
--- The script that lies there was not run: its text is none, and the errors tell why; or it was not read; or memory ran out.
+-- The script that lies there was not run, and the errors tell why: its text is none, or it was not read; or memory ran out.
 abbrev pub NoScriptOutcome : Bool → Content → List ℕ → Counted → ℕ → Type 0
-NoScriptOutcome explains content name errors status =
-    ((text : List ℕ) × IsText content text × (told : List ℕ) × IsNoScript explains name text told × Says errors told × (status ≡ 2))
-    ⊎ RefusedOutcome explains content name errors status
+NoScriptOutcome explains content name errors status = RefusedBy (IsNoScript explains name content) errors status
+
+-- ---- `check` and `fmt`
+
+-- how many functions the script has that lies there
+abbrev pub IsCounted : Content → List ℕ → Type 0
+IsCounted content told = (s : PlainScript) × IsOpened content s × (told ≡ line (codes "ok functions " ++ decimal (length s.program)))
+
+-- `check`: it was said how many functions the script has; or why there is none
+abbrev pub CheckOutcome : Bool → List ℕ → Content → Counted → Counted → ℕ → Type 0
+CheckOutcome explains name content = GivesText (IsCounted content) (IsNoScript explains name content)
+
+-- the forms that the text spells that lies there, each on a line
+abbrev pub ArePrinted : Content → List ℕ → Type 0
+ArePrinted content told = (forms : List PlainSexpr) × AreForms content forms × (told ≡ printed forms)
+
+-- `fmt`: they were written; or it was said why there are none
+abbrev pub FmtOutcome : Bool → List ℕ → Content → Counted → Counted → ℕ → Type 0
+FmtOutcome explains name content = GivesText (ArePrinted content) (HasNoForms explains name content)
 
 -- ---- what private functions say
 
--- a script in memory
-abbrev pub plain_script : Script → PlainScript
-plain_script s = record { text = s.text.items; forms = s.forms.items; program = s.program }
+-- what lies there is this text, which spells these forms
+abbrev pub HasForms : Content → List ℕ → List PlainSexpr → Type 0
+HasForms content given forms = IsWholeText content given × Spells given forms
 
 -- the forms are those of this program
 abbrev pub IsProgramOf : List PlainSexpr → List (PlainItem ℕ) → Type 0
 IsProgramOf forms p = shape forms ≡ Ok (text_of p)
 
--- why the forms are no program
-abbrev pub IsNoProgram : Bool → List ℕ → List ℕ → List PlainSexpr → Refusal → Type 0
-IsNoProgram explains name text forms (Unread why) = ⊥
-IsNoProgram explains name text forms (Wrong told) =
-    (fault : PlainCheckFault) × (shape forms ≡ Err fault) × (told.items ≡ script_told explains name text forms fault)
-IsNoProgram explains name text forms Memory = Unit {0}
-
--- why no program was made of a text
-abbrev pub IsNotMade : Bool → List ℕ → List ℕ → Refusal → Type 0
-IsNotMade explains name text (Unread why) = ⊥
-IsNotMade explains name text (Wrong told) = IsNoScript explains name text told.items
-IsNotMade explains name text Memory = Unit {0}
-
--- why no program was made of what lies there
-abbrev pub IsNotOpened : Bool → List ℕ → Content → Refusal → Type 0
-IsNotOpened explains name content (Unread why) = MayBeRefused content
-IsNotOpened explains name content (Wrong told) = (text : List ℕ) × IsText content text × IsNoScript explains name text told.items
-IsNotOpened explains name content Memory = Unit {0}
+-- a script in memory
+abbrev pub plain_script : Script → PlainScript
+plain_script s = record { text = s.text.items; forms = s.forms.items; program = s.program }

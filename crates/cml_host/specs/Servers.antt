@@ -4,12 +4,10 @@ use Rattle.std.specs.List.{flat_map, range_with_len}
 use Rattle.std.specs.Str.{bytes_eq}
 use Rattle.cml_check.specs.Syntax.{Name}
 use Rattle.cml_phrase.specs.Names.{function_name}
-use Rattle.cml_stream.specs.Streams.{Counted, Says}
 use Rattle.cml_text.specs.Lines.{line}
 use Rattle.cml_arguments.specs.declared.EndOptions.{EndOptions}
+use Rattle.cml_host.specs.Refused.{Fault}
 use Rattle.cml_host.specs.Scripts.{PlainScript}
-use Rattle.cml_host.specs.declared.refusal.Refusal.{Refusal}
-use Rattle.cml_host.specs.declared.refusal.Refusal.TheVariants.{Unread, Wrong, Memory}
 
 -- the number of the function of this name, if the script has one
 abbrev pub function_numbered : PlainScript → Name → Option ℕ
@@ -36,15 +34,6 @@ server_names options = map (λ name. name.now) options.servers.items
 abbrev pub unknown_line : Name → List ℕ
 unknown_line name = line (codes "no function " ++ name)
 
--- one of these names is of no function, and the errors tell the first such
-abbrev pub NoFunctionOutcome : PlainScript → List Name → Counted → ℕ → Type 0
-NoFunctionOutcome s names errors status =
-    (name : Name) × (first_unknown s names ≡ Some name) × Says errors (unknown_line name) × (status ≡ 1)
-
--- ---- what private functions say
-
--- why the functions of these names have no numbers
-abbrev pub IsNotNumbered : PlainScript → List Name → Refusal → Type 0
-IsNotNumbered s names (Unread why) = ⊥
-IsNotNumbered s names (Wrong told) = (name : Name) × (first_unknown s names ≡ Some name) × (told.items ≡ unknown_line name)
-IsNotNumbered s names Memory = Unit {0}
+-- one of these names is of no function, and this tells the first such
+abbrev pub IsNoFunction : PlainScript → List Name → Fault
+IsNoFunction s names told status = ((name : Name) × (first_unknown s names ≡ Some name) × (told ≡ unknown_line name)) × (status ≡ 1)

@@ -1,17 +1,18 @@
 -- What the program does about its arguments, and with which status it ends.
-use Rattle.std.specs.Prelude.{◌≡◌, ◌⊎◌, ℕ, Bool, false, List, codes}
+use Rattle.std.specs.Prelude.{◌≡◌, ◌⊎◌, ℕ, ◌+◌, ◌^◌, ◌≤◌, Bool, false, IfSome, List, codes}
 use Rattle.std.specs.String.{string_bytes}
 use Rattle.cml_arguments.specs.declared.Task.TheVariants.{Trace, Check, Fmt, Run, Replay, Explain, Explore, Shrink, Draw, Step}
 use Rattle.cml_arguments.specs.declared.Answer.{Answer}
 use Rattle.cml_arguments.specs.declared.Answer.TheVariants as answer
-use Rattle.cml_arguments.specs.Words.{IsAnswer, explains}
+use Rattle.cml_arguments.specs.declared.Task.{Task}
+use Rattle.cml_arguments.specs.Words.{IsAnswer, IsDepth, IsRuns, explains}
+use Rattle.cml_hub.specs.Kept.{IsBudget, IsWatch}
+use Rattle.cml_work.specs.Works.{IsWorkerCount}
 use Rattle.cml_trace.specs.Replies.{line}
 use Rattle.cml_stream.specs.Counts.{Calls}
 use Rattle.cml_stream.specs.Streams.{Counted, Stream, IsIdle, Says}
 use Rattle.cml_host.specs.Stores.{Shelf, IsUnchanged}
-use Rattle.cml_host.specs.Checked.{IsChecked}
-use Rattle.cml_host.specs.Formatted.{IsPrinted}
-use Rattle.cml_host.specs.Said.{FileOutcome}
+use Rattle.cml_host.specs.Scripts.{CheckOutcome, FmtOutcome}
 use Rattle.cml_host.specs.Running.{RunOutcome}
 use Rattle.cml_host.specs.Replaying.{ReplayOutcome}
 use Rattle.cml_host.specs.Narrated.{ExplainOutcome}
@@ -41,12 +42,10 @@ abbrev pub AnswerOutcome : Answer → Surroundings → ℕ → Type 0
 AnswerOutcome (answer.Task (Trace options)) around status =
     TraceOutcome options.live (explains options.explain around.terminal) around.input around.output around.errors status × SavesNothing around
 AnswerOutcome (answer.Task (Check options)) around status =
-    FileOutcome (IsChecked (explains options.explain around.terminal) options.file.now) (explains options.explain around.terminal) options.file.now (around.store.before options.file.now)
-    around.output around.errors status
+    CheckOutcome (explains options.explain around.terminal) options.file.now (around.store.before options.file.now) around.output around.errors status
     × IsIdle around.input × SavesNothing around
 AnswerOutcome (answer.Task (Fmt options)) around status =
-    FileOutcome (IsPrinted (explains options.explain around.terminal) options.file.now) (explains options.explain around.terminal) options.file.now (around.store.before options.file.now)
-    around.output around.errors status
+    FmtOutcome (explains options.explain around.terminal) options.file.now (around.store.before options.file.now) around.output around.errors status
     × IsIdle around.input × SavesNothing around
 AnswerOutcome (answer.Task (Run options)) around status =
     RunOutcome options (explains options.explain around.terminal) around.output around.errors around.store status × IsIdle around.input
@@ -91,3 +90,13 @@ RanOver words input output errors store status =
       store = store;
     })
     status
+
+-- ---- what private functions say
+
+-- the numbers that a command is given lie within their bounds
+abbrev pub HasCounts : Task → Type 0
+HasCounts (Run options) = IsWorkerCount options.workers × IsBudget options.steps × IsWatch options.watch
+HasCounts (Replay options) = IsWatch options.watch
+HasCounts (Explore options) =
+    IsRuns options.runs × IsBudget options.steps × IfSome options.priority IsDepth × (options.seed + options.runs ≤ 2 ^ 64)
+HasCounts _ = Unit {0}

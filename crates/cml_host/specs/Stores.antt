@@ -1,7 +1,6 @@
 -- Stores: what is known of what lies in them.
-use Rattle.std.specs.Prelude.{◌≡◌, ◌≢◌, ℕ, ◌+◌, ◌≤◌, List, Option, Some, None, codes, length, take}
+use Rattle.std.specs.Prelude.{◌≡◌, ◌≢◌, ℕ, ◌+◌, ◌≤◌, List, Option, Some, None, length, take}
 use Rattle.cml_host.specs.declared.reason.Reason.{Reason}
-use Rattle.cml_host.specs.declared.reason.Reason.TheVariants as reason
 use Rattle.cml_host.specs.declared.store.StoreFault.{StoreFault}
 use Rattle.cml_host.specs.declared.store.StoreFault.TheVariants.{Refused, Memory}
 
@@ -42,20 +41,6 @@ reason_in Memory = None
 abbrev pub MayFail : Content → StoreFault → Type 0
 MayFail content (Refused why) = MayBeRefused content
 MayFail content Memory = Unit {0}
-
--- why a file can't be read or written, as the system says it
-abbrev pub system_words : Reason → List ℕ
-system_words reason.NotFound = codes "No such file or directory"
-system_words reason.Denied = codes "Permission denied"
-system_words reason.IsFolder = codes "Is a directory"
-system_words reason.NoFolder = codes "Not a directory"
-system_words reason.LongName = codes "File name too long"
-system_words reason.Loop = codes "Too many levels of symbolic links"
-system_words reason.ReadOnly = codes "Read-only file system"
-system_words reason.Full = codes "No space left on device"
-system_words reason.Quota = codes "Disk quota exceeded"
-system_words reason.TooLarge = codes "File too large"
-system_words reason.Busy = codes "Text file busy"
 
 -- it was this, and is now these bytes, where it was known
 abbrev pub IsReplacedBy : Content → Content → List ℕ → Type 0

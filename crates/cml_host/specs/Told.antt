@@ -1,5 +1,5 @@
 -- What is told of a run of a script: its reports to the errors, its output and its end line to the output.
-use Rattle.std.specs.Prelude.{◌≡◌, ◌≢◌, ◌⊎◌, ℕ, List, ◌++◌, length, codes, Option, Some, None, Result, Ok, Err}
+use Rattle.std.specs.Prelude.{◌≡◌, ◌≢◌, ◌⊎◌, ℕ, List, ◌++◌, length, codes, Bool, true, false, Option, Some, None, Result, Ok, Err}
 use Rattle.std.specs.List.{flat_map}
 use Rattle.cml_check.specs.Syntax.{PlainItem}
 use Rattle.cml_hub.specs.declared.fault.End.{End}
@@ -15,6 +15,7 @@ use Rattle.cml_stream.specs.Streams.{Counted, IsIdle, Says, Takes, TakesStart}
 use Rattle.cml_text.specs.Lines.{line}
 use Rattle.cml_work.specs.Marks.{BeginsWith}
 use Rattle.cml_stream.specs.declared.input_output.WriteFault.{WriteFault}
+use Rattle.cml_host.specs.Written.{cannot_write}
 
 -- ---- what there is to tell
 
@@ -64,15 +65,11 @@ SaysAfter errors before told =
     (Takes errors.bytes (before ++ told) × (errors.counts.failed ≡ 0))
     ⊎ ((said : List ℕ) × (unsaid : List ℕ) × (told ≡ said ++ unsaid) × Takes errors.bytes (before ++ said) × (errors.counts.failed ≡ 1))
 
--- all of it, and then these words were said to the errors, if there are any
-abbrev pub IsToldWith : Option (List ℕ) → List PlainReport → List ℕ → Counted → Counted → Type 0
-IsToldWith None reports text output errors = IsTold reports text output errors
-IsToldWith (Some words) reports text output errors =
-    SaysAfter errors (reports_text reports) words × Takes output.bytes text × (output.counts.failed ≡ 0)
-
--- the line that tells of a write that failed
-abbrev pub cannot_write : List ℕ
-cannot_write = line (codes "cannot write output")
+-- all of it, and then how it ended was said to the errors, where that is explained
+abbrev pub IsToldWith : Bool → List PlainReport → List ℕ → Counted → Counted → Type 0
+IsToldWith false reports text output errors = IsTold reports text output errors
+IsToldWith true reports text output errors =
+    ((words : List ℕ) × SaysAfter errors (reports_text reports) words) × Takes output.bytes text × (output.counts.failed ≡ 0)
 
 -- after a write that failed the line was written, or where that failed too a prefix of it
 abbrev pub SaysStill : Counted → List ℕ → List ℕ → Type 0
@@ -90,24 +87,17 @@ abbrev pub ReportsBroke : List PlainReport → Counted → Counted → ℕ → T
 ReportsBroke reports output errors status =
     Breaks errors (reports_text reports) cannot_write × IsIdle output × (status ≡ 1)
 
--- a write of the text to the output failed, after this was written to the errors
-abbrev pub OutputBrokeAfter : List ℕ → List ℕ → Counted → Counted → ℕ → Type 0
-OutputBrokeAfter before text output errors status =
-    TakesStart output.bytes text × (output.counts.failed ≡ 1)
-    × Says errors (before ++ cannot_write) × (status ≡ 1)
-
--- memory ran out: after this was written to the errors, the output so far was written, and no end line
-abbrev pub MemoryBrokeAfter : List ℕ → List ℕ → Counted → Counted → ℕ → Type 0
-MemoryBrokeAfter before text output errors status =
-    Takes output.bytes text × (output.counts.failed ≡ 0)
-    × Says errors (before ++ line (codes "memory")) × (status ≡ 5)
-
--- the same after these reports
+-- a write of the text to the output failed, after these reports were written to the errors
 abbrev pub OutputBroke : List PlainReport → List ℕ → Counted → Counted → ℕ → Type 0
-OutputBroke reports = OutputBrokeAfter (reports_text reports)
+OutputBroke reports text output errors status =
+    TakesStart output.bytes text × (output.counts.failed ≡ 1)
+    × Says errors (reports_text reports ++ cannot_write) × (status ≡ 1)
 
+-- memory ran out: after these reports were written to the errors, the output so far was written, and no end line
 abbrev pub MemoryBroke : List PlainReport → List ℕ → Counted → Counted → ℕ → Type 0
-MemoryBroke reports = MemoryBrokeAfter (reports_text reports)
+MemoryBroke reports text output errors status =
+    Takes output.bytes text × (output.counts.failed ≡ 0)
+    × Says errors (reports_text reports ++ line (codes "memory")) × (status ≡ 5)
 
 -- The run was cut off. A write of its reports failed, and the output was not called; or all of its reports were written, and either its
 -- output so far and the line `memory`, or a prefix of that output, since a write of it failed.

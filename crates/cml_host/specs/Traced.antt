@@ -5,13 +5,12 @@ use Rattle.cml_trace.specs.declared.fault.TraceEnd.TheVariants.{Done, Bad, TooLo
 use Rattle.cml_trace.specs.declared.fault.TraceFault.{TraceFault}
 use Rattle.cml_trace.specs.declared.fault.TraceFault.TheVariants.{Read, Turns, Write, Memory}
 use Rattle.cml_trace.specs.Answers.{max_input}
-use Rattle.cml_trace.specs.Explained.{IsExplained}
 use Rattle.cml_trace.specs.Faults.{HasCause}
 use Rattle.cml_trace.specs.Live.{max_turns, IsHeardOut, LiveIsStopped, HasLiveCause}
 use Rattle.cml_trace.specs.Replies.{line}
 use Rattle.cml_trace.specs.Runs.{IsAnswered, IsBroken}
 use Rattle.cml_stream.specs.Counts.{most_reads}
-use Rattle.cml_stream.specs.Streams.{Counted, Stream, IsIdle, Says}
+use Rattle.cml_stream.specs.Streams.{Counted, IsIdle, Says}
 
 -- 0 where all was done, 2 where the trace has a bad line or is too long
 abbrev pub status_of : TraceEnd → ℕ
@@ -33,17 +32,17 @@ trace_fault_line Turns = line (codes "cannot read input")
 trace_fault_line Write = line (codes "cannot write output")
 trace_fault_line Memory = line (codes "memory")
 
--- what is told of the trace that came from the input, where that is explained; else nothing is
-abbrev pub IsTold : Bool → Stream → Counted → Type 0
-IsTold false input errors = IsIdle errors
-IsTold true input errors = (told : List ℕ) × IsExplained input told × Says errors told
+-- what is wrong with the trace was told, where that is explained; else nothing was
+abbrev pub IsTold : Bool → Counted → Type 0
+IsTold false errors = IsIdle errors
+IsTold true errors = (told : List ℕ) × Says errors told
 
 -- The trace on the input was answered, and no call of its streams failed; or not to its end, since a call failed, the input did not end
 -- or memory ran out, and the errors tell of it.
 abbrev pub WholeOutcome : Bool → Counted → Counted → Counted → ℕ → Type 0
 WholeOutcome explains input output errors status =
     ((end : TraceEnd) × IsAnswered input.bytes output.bytes end × HasCause (Ok end) input.counts output.counts
-    × (status ≡ status_of end) × IsTold explains input.bytes errors)
+    × (status ≡ status_of end) × IsTold explains errors)
     ⊎ ((fault : TraceFault) × IsBroken input.bytes output.bytes fault × HasCause (Err fault) input.counts output.counts
     × (status ≡ fault_status fault) × Says errors (trace_fault_line fault))
 

@@ -1,9 +1,8 @@
 //! How a run is closed that has come to its end: its status, and what is said of that end.
 
-ghost use Rattle.std.specs.Prelude.{◌≡◌, IfOk, Some, false, is_some};
+ghost use Rattle.std.specs.Prelude.{◌≡◌, ◌||◌, IfOk, is_some, true};
 ghost use Rattle.cml_host.specs.Between.{between};
-ghost use Rattle.cml_host.specs.Closed.{IsClosing, IsEndExplained, SaysEnd, asked_of, drawn_subject, kept_of, script_as_subject, plain_asked, plain_closing, plain_subject};
-ghost use Rattle.cml_host.specs.Scripts.{plain_script};
+ghost use Rattle.cml_host.specs.Closed.{IsClosing, PlainAsked, SaysEnd, plain_asked};
 ghost use Rattle.cml_host.specs.Closed as closed;
 ghost use Rattle.cml_host.specs.Told as spec;
 
@@ -11,8 +10,9 @@ use crate::output::say;
 use crate::script::Script;
 use cml_check::Prog;
 use cml_ending::{explain_end, is_stuck};
-use cml_fault::explain_faults;
+use cml_fault::{faults_of, write_faults};
 use cml_hub::{End, Hub};
+use cml_phrase::statement_places;
 use cml_stream::Counting;
 use cml_text::Sexpr;
 use std::alloc::{AllocError, Global};
@@ -35,10 +35,10 @@ pub struct Subject<'a> {
 /// What is asked of the end of a run.
 #[derive(Drop)]
 pub struct Asked<'a> {
-    /// The script that is spoken of, where the end is explained.
+    /// The script, where it is kept.
     pub subject: Option<Subject<'a>>,
-    /// The script, where the end is not explained but a picture of the run is drawn.
-    pub drawn: Option<Subject<'a>>,
+    /// Whether the end is explained.
+    pub explains: bool,
     /// Whether it is judged strictly.
     pub strict: bool,
     /// The numbers of the functions of servers.
@@ -57,7 +57,8 @@ pub struct Closing {
 /// The program of the script, and the script as one that is spoken of.
 pub fn subject_of<'a>(name: &'a str, script: Script) -> (Prog, Subject<'a>)
     ensures program { result.0 ≡ script.program }
-    ensures subject { plain_subject result.1 ≡ script_as_subject name.now (plain_script script) }
+    ensures text { result.1.text.items ≡ script.text.items }
+    ensures forms { result.1.forms.items ≡ script.forms.items }
 {
     let Script {
         text,
@@ -78,47 +79,31 @@ pub fn ask<'a>(
     servers: Vec<u32>,
 ) -> (Prog, Asked<'a>)
     ensures program { result.0 ≡ script.program }
-    ensures asked { plain_asked result.1 ≡ asked_of explains name.now (plain_script script) strict servers.items }
-    ensures kept { drawn_subject result.1 ≡ kept_of explains draws (script_as_subject name.now (plain_script script)) }
+    ensures asked { let asked : PlainAsked = record { explains = explains; strict = strict; servers = servers.items } in
+        plain_asked result.1 ≡ asked }
+    ensures kept { is_some result.1.subject ≡ explains || draws }
 {
-    let Script {
-        text,
-        forms,
-        program,
-    } = script;
-    let (subject, drawn) = if explains {
-        (Some(Subject { name, text, forms }), None)
-    } else if draws {
-        (None, Some(Subject { name, text, forms }))
-    } else {
-        (None, None)
-    };
+    let (program, subject) = subject_of(name, script);
+    let subject = keep_where(subject, explains, draws);
     let asked = Asked {
         subject,
-        drawn,
+        explains,
         strict,
         servers,
     };
     (program, asked)
 }
 
-/// What is asked of the end of a run of the script, which is spoken of and not judged.
-pub fn ask_of<'a>(subject: Subject<'a>, servers: Vec<u32>) -> Asked<'a>
-    ensures { plain_asked result ≡ record { subject = Some (plain_subject subject.entry); strict = false; servers = servers.items } }
+// The script, where the end is explained or a picture is drawn.
+fn keep_where<'a>(subject: Subject<'a>, explains: bool, draws: bool) -> Option<Subject<'a>>
+    ensures { is_some result ≡ explains || draws }
 {
-    Asked {
-        subject: Some(subject),
-        drawn: None,
-        strict: false,
-        servers,
+    if explains || draws {
+        Some(subject)
+    } else {
+        drop(subject);
+        None
     }
-}
-
-/// Whether what is wrong is explained: where a script is spoken of.
-pub fn explains(asked: &Asked<'_>) -> bool
-    ensures { result ≡ is_some (plain_asked asked.now).subject }
-{
-    asked.subject.is_some()
 }
 
 /// How the run of this hub is closed, which has come to its end.
@@ -126,21 +111,39 @@ pub fn explains(asked: &Asked<'_>) -> bool
 /// # Errors
 /// Out of memory, which it takes only where the end is explained.
 pub fn close(alloc: Global, hub: &Hub, asked: &Asked<'_>) -> Result<Closing, AllocError>
-    ensures { IfOk result (λ closing. IsClosing (plain_asked asked.now) hub.now (plain_closing closing)) }
+    ensures { IfOk result (IsClosing (plain_asked asked.now) hub.now) }
 {
     let status = closing_status(hub, asked);
     match &asked.subject {
-        Some(subject) => {
-            let words = end_words(alloc, hub, subject)?;
-            Ok(Closing {
-                status,
-                words: Some(words),
-            })
-        }
+        Some(subject) => close_subject(alloc, hub, asked.explains, subject, status),
         None => Ok(Closing {
             status,
             words: None,
         }),
+    }
+}
+
+// The same of a script that is kept, with this status.
+fn close_subject(
+    alloc: Global,
+    hub: &Hub,
+    explains: bool,
+    subject: &Subject<'_>,
+    status: u8,
+) -> Result<Closing, AllocError>
+    ensures { IfOk result (λ closing. (closing.status ≡ status) × (is_some closing.words ≡ explains)) }
+{
+    if explains {
+        let words = end_words(alloc, hub, subject)?;
+        Ok(Closing {
+            status,
+            words: Some(words),
+        })
+    } else {
+        Ok(Closing {
+            status,
+            words: None,
+        })
     }
 }
 
@@ -149,15 +152,28 @@ pub fn close(alloc: Global, hub: &Hub, asked: &Asked<'_>) -> Result<Closing, All
 /// # Errors
 /// Out of memory.
 #[inline(never)]
-pub fn end_words(alloc: Global, hub: &Hub, subject: &Subject<'_>) -> Result<Vec<u8>, AllocError>
-    ensures { IfOk result (λ words. IsEndExplained (plain_subject subject.now) hub.now words.items) }
-{
+pub fn end_words(alloc: Global, hub: &Hub, subject: &Subject<'_>) -> Result<Vec<u8>, AllocError> {
     let text = subject.text.as_slice();
     let forms = subject.forms.as_slice();
     let mut words = explain_end(alloc, subject.name, text, forms, hub)?;
-    let faults = explain_faults(alloc, subject.name, text, forms, hub)?;
-    words.extend_from_slice(faults.as_slice())?;
+    push_faults(alloc, &mut words, hub, subject)?;
     Ok(words)
+}
+
+// Where and why threads ended at faults.
+#[inline(never)]
+fn push_faults(
+    alloc: Global,
+    words: &mut Vec<u8>,
+    hub: &Hub,
+    subject: &Subject<'_>,
+) -> Result<(), AllocError> {
+    let text = subject.text.as_slice();
+    let forms = subject.forms.as_slice();
+    let places = statement_places(alloc, text, forms)?;
+    let faults = faults_of(alloc, forms, places.as_slice(), hub)?;
+    drop(places);
+    write_faults(alloc, words, subject.name, text, forms, &faults)
 }
 
 // With which status it ends.
@@ -185,12 +201,15 @@ fn end_status(end: End) -> u8
 pub fn say_end<E: Write>(closing: &Closing, err: &mut Counting<'_, E>) -> u8
     requires fresh { err.old.failed ≡ 0 }
     ensures said { let errors = between E.contents err.old err.new in
-        SaysEnd (plain_closing closing.now).words errors }
+        SaysEnd (is_some closing.now.words) errors }
     ensures status { result ≡ closing.now.status }
     ensures same_err { err.new.stream.ghost_name ≡ err.old.stream.ghost_name }
 {
-    if let Some(words) = &closing.words {
-        say(err, words.as_slice());
+    match &closing.words {
+        Some(words) => {
+            say(err, words.as_slice());
+            closing.status
+        }
+        None => closing.status,
     }
-    closing.status
 }

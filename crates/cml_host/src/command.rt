@@ -1,18 +1,18 @@
 //! Which command is done.
 
 ghost use Rattle.std.specs.{Prelude.{◌≡◌, ◌≤◌, map}, String.{string_bytes}};
-ghost use Rattle.cml_host.specs.{Between.{between}, Statuses.{Surroundings, Ran, RanOver}, Stores.{Shelf}};
+ghost use Rattle.cml_host.specs.{Between.{between}, Statuses.{AnswerOutcome, HasCounts, Surroundings, Ran, RanOver}, Stores.{Shelf}};
 ghost use Rattle.cml_stream.specs.Streams.{stream};
 ghost use Rattle.cml_trace.specs.Live.{max_turns};
 
-use crate::check::check_file;
 use crate::draw::draw_file;
 use crate::explain::explain_file;
 use crate::explore::explore_file;
-use crate::fmt::print_file;
 use crate::output::{say, send_text};
+use crate::refusal::{Refusal, refuse, reply};
 use crate::replay::replay_file;
 use crate::run::run_file;
+use crate::script::{check_file, print_file};
 use crate::shrink::shrink_file;
 use crate::step::step_file;
 use crate::store::Store;
@@ -102,43 +102,79 @@ where
     ensures same_err { err.new.stream.ghost_name ≡ err.old.stream.ghost_name }
 {
     match read_arguments(alloc, words) {
-        Ok(Answer::Task(Task::Trace(options))) => {
-            let explains = options.explain.is_on(terminal);
-            trace(alloc, options.live, explains, input, out, err)
-        }
-        Ok(Answer::Task(Task::Check(options))) => {
-            let explains = options.explain.is_on(terminal);
-            check_file(alloc, options.file, explains, out, err, store)
-        }
-        Ok(Answer::Task(Task::Fmt(options))) => {
-            let explains = options.explain.is_on(terminal);
-            print_file(alloc, options.file, explains, out, err, store)
-        }
-        Ok(Answer::Task(Task::Run(options))) => {
-            let explains = options.explain.is_on(terminal);
-            run_file(rt, alloc, gate, &options, explains, out, err, store)
-        }
-        Ok(Answer::Task(Task::Replay(options))) => {
-            let explains = options.explain.is_on(terminal);
-            replay_file(alloc, &options, explains, out, err, store)
-        }
-        Ok(Answer::Task(Task::Explain(options))) => explain_file(alloc, &options, out, err, store),
-        Ok(Answer::Task(Task::Explore(options))) => {
-            explore_file(rt, alloc, &options, terminal, out, err, store)
-        }
-        Ok(Answer::Task(Task::Shrink(options))) => shrink_file(alloc, &options, out, err, store),
-        Ok(Answer::Task(Task::Draw(options))) => draw_file(alloc, &options, out, err, store),
-        Ok(Answer::Task(Task::Step(options))) => {
-            step_file(alloc, &options, input, out, err, store)
+        Ok(Answer::Task(task)) => {
+            do_task(rt, alloc, gate, task, input, out, err, terminal, store)
         }
         Ok(Answer::Help(text)) => send_text(text.as_bytes(), out, err),
         Ok(Answer::Fault(text)) => {
             say(err, text.as_bytes());
             1
         }
-        Err(AllocError) => {
-            say(err, b"memory\n");
-            5
+        Err(AllocError) => refuse(Refusal::Memory, err),
+    }
+}
+
+// Does what the arguments ask for.
+fn do_task<R, G, I, O, E, S>(
+    rt: &R,
+    alloc: Global,
+    gate: &G,
+    task: Task<'_>,
+    input: &mut Counting<'_, I>,
+    out: &mut Counting<'_, O>,
+    err: &mut Counting<'_, E>,
+    terminal: bool,
+    store: &mut S,
+) -> u8
+where
+    R: Threads + Wait + Sync,
+    G: Gate + Sync,
+    I: Read,
+    O: Write,
+    E: Write + Send,
+    S: Store,
+    requires counts { HasCounts task }
+    requires reads { (input.old.calls ≡ 0) × (input.old.failed ≡ 0) }
+    requires writes { (out.old.calls ≡ 0) × (out.old.failed ≡ 0) }
+    requires complaints { (err.old.calls ≡ 0) × (err.old.failed ≡ 0) }
+    ensures ran { let around : Surroundings = record {
+      input = between I.remaining input.old input.new;
+      output = between O.contents out.old out.new;
+      errors = between E.contents err.old err.new;
+      terminal = terminal;
+      store = record { before = S.holds store.old; after = S.holds store.new };
+    } in
+        AnswerOutcome (Answer.Task task.entry) around result }
+    ensures most { input.new.calls ≤ max_turns }
+    ensures same_in { input.new.stream.ghost_name ≡ input.old.stream.ghost_name }
+    ensures same_out { out.new.stream.ghost_name ≡ out.old.stream.ghost_name }
+    ensures same_err { err.new.stream.ghost_name ≡ err.old.stream.ghost_name }
+{
+    match task {
+        Task::Trace(options) => {
+            let explains = options.explain.is_on(terminal);
+            trace(alloc, options.live, explains, input, out, err)
         }
+        Task::Check(options) => {
+            let explains = options.explain.is_on(terminal);
+            reply(check_file(alloc, options.file, explains, store), out, err)
+        }
+        Task::Fmt(options) => {
+            let explains = options.explain.is_on(terminal);
+            reply(print_file(alloc, options.file, explains, store), out, err)
+        }
+        Task::Run(options) => {
+            let explains = options.explain.is_on(terminal);
+            run_file(rt, alloc, gate, &options, explains, out, err, store)
+        }
+        Task::Replay(options) => {
+            let explains = options.explain.is_on(terminal);
+            replay_file(alloc, &options, explains, out, err, store)
+        }
+        Task::Explain(options) => explain_file(alloc, &options, out, err, store),
+        Task::Explore(options) => explore_file(rt, alloc, &options, terminal, out, err, store),
+        Task::Shrink(options) => shrink_file(alloc, &options, out, err, store),
+        Task::Draw(options) => reply(draw_file(alloc, &options, store), out, err),
+        Task::Step(options) => step_file(alloc, &options, input, out, err, store),
     }
 }

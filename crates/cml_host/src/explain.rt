@@ -1,34 +1,49 @@
 //! The command `explain`: what happened in a run, item by item, and how it ended.
 
-ghost use Rattle.std.specs.Prelude.{◌≡◌, ◌+◌, ◌<◌, ◌^◌, [], IfOk, IfErr, OnOk, OnErr, IsTrue, None, length};
-ghost use Rattle.cml_hub.specs.Kept.{IsAtStart, NoneOut};
-ghost use Rattle.cml_host.specs.{Between.{between}, Closed.{plain_subject}};
-ghost use Rattle.cml_host.specs.Narrated.{ExplainOutcome, HasToldFirst, IsSetUp, IsNotSetUp, IsTellingOf, PlanTold, Spills, TextExplained, StoryCut, tale_for};
-ghost use Rattle.cml_host.specs.Stores.{IsUnchanged};
+ghost use Rattle.std.specs.Prelude.{◌≡◌, [], ◌+◌, ◌<◌, ◌^◌, IfOk, IfErr, OnOk, OnErr, IsTrue, None, is_some, length};
+ghost use Rattle.cml_hub.specs.Kept.{IsAtStart, IsFollowed, NoneOut};
+ghost use Rattle.cml_host.specs.{Between.{between}, Plans.{AreNotBoth}, Refused.{RefusesAs}, Stores.{IsUnchanged}};
+ghost use Rattle.cml_host.specs.Narrated.{ExplainOutcome, HasToldFirst, IsPlanBegun, IsCutBy, PlanTold, Writes};
 ghost use Rattle.cml_host.specs.Narrated as spec;
-ghost use Rattle.cml_narrative.specs.Tellers.{Knows, tale_of};
-ghost use Rattle.cml_stream.specs.Streams.{stream, TakesStart};
+ghost use Rattle.cml_narrative.specs.Narrators.{Knows};
+ghost use Rattle.cml_stream.specs.Streams.{stream};
 
 use crate::close::{Subject, end_words};
 use crate::item::explain_item;
-use crate::opening::{REFUSED, open_both, refuse_opening};
-use crate::output::{say, send_text};
+use crate::opening::{Opened, REFUSED, begin, open_both};
+use crate::output::{say, send_text, write_words};
 use crate::refusal::{Refusal, refuse};
-use crate::replay::{read_plan, told_size};
 use crate::store::Store;
-use crate::tell::{hub_is_a_run, let_go};
+use crate::tell::let_go;
 use cml_arguments::PartOptions;
-use cml_check::Prog;
-use cml_hub::{Hub, Item, Plan, matches_program};
-use cml_narrative::Narrator;
+use cml_hub::{Hub, Item, Plan};
+use cml_narrative::{Happened, Narrator, push_happened};
 use cml_stream::Counting;
-use cml_stream::input_output::{WriteFault, write_out};
+use cml_stream::input_output::WriteFault;
+use cml_text::Sexpr;
 use std::alloc::{AllocError, Global};
 use std::io::Write;
 use thiserror::Error;
 
 // So many bytes of a story are written at once, or a few more.
 const PIECE: usize = 65_536;
+
+// A run that is told.
+#[derive(Drop)]
+struct Story<'a> {
+    hub: Hub,
+    subject: Subject<'a>,
+    plan: Plan,
+    text: Vec<u8>,
+}
+
+// What is told of it: the items that are asked for, of so many, in words of these forms.
+#[derive(Clone, Copy)]
+struct Telling<'a> {
+    forms: &'a [Sexpr],
+    options: &'a PartOptions<'a>,
+    count: usize,
+}
 
 /// Why a command is cut off.
 #[derive(Clone, Copy, Debug, Error)]
@@ -80,77 +95,55 @@ pub fn explain_file<O: Write, E: Write, S: Store>(
     ensures same_out { out.new.stream.ghost_name ≡ out.old.stream.ghost_name }
     ensures same_err { err.new.stream.ghost_name ≡ err.old.stream.ghost_name }
 {
-    match open_both(alloc, options.script, options.schedule, store) {
-        Ok((program, subject, text)) => explain_text(
-            alloc,
-            program,
-            &subject,
-            text.as_slice(),
-            options,
-            out,
-            err,
-        ),
-        Err(why) => refuse_opening(alloc, options.script, options.schedule, why, err),
-    }
-}
-
-// Tells what happened in the run of the program by the schedule that the text is.
-fn explain_text<O: Write, E: Write>(
-    alloc: Global,
-    program: Prog,
-    subject: &Subject<'_>,
-    text: &[u8],
-    options: &PartOptions<'_>,
-    out: &mut Counting<'_, O>,
-    err: &mut Counting<'_, E>,
-) -> u8
-    requires fresh { (out.old.calls ≡ 0) × (out.old.failed ≡ 0) × (err.old.calls ≡ 0) × (err.old.failed ≡ 0) }
-    ensures ran { let output = between O.contents out.old out.new in
-        let errors = between E.contents err.old err.new in
-        TextExplained options.now (plain_subject subject.now) program text.now output errors result }
-    ensures same_out { out.new.stream.ghost_name ≡ out.old.stream.ghost_name }
-    ensures same_err { err.new.stream.ghost_name ≡ err.old.stream.ghost_name }
-{
-    match begin(alloc, program, text) {
-        Ok((mut hub, plan)) => {
+    match begin_there(alloc, options, store) {
+        Ok(story) => {
+            let Story {
+                mut hub,
+                subject,
+                plan,
+                text,
+            } = story;
             let items = plan.items.as_slice();
-            let status = explain_items(alloc, &mut hub, subject, text, items, options, out, err);
+            let status = explain_items(
+                alloc,
+                &mut hub,
+                &subject,
+                text.as_slice(),
+                items,
+                options,
+                out,
+                err,
+            );
             let_go(hub);
             status
         }
-        Err(why) => refuse(alloc, options.schedule, true, why, REFUSED, err),
+        Err(why) => refuse(why, err),
     }
 }
 
-/// A hub at the beginning of a run of the program, and the plan that the text is, if that is one of such programs.
-///
-/// # Errors
-/// Why the text is none; or out of memory.
-pub fn begin(alloc: Global, program: Prog, text: &[u8]) -> Result<(Hub, Plan), Refusal>
-    ensures ok { IfOk result (λ begun. IsSetUp program text.now begun.0 begun.1) }
-    ensures err { IfErr result (IsNotSetUp program text.now) }
+// The script and the schedule that lie under their names, and a hub at the beginning of a run.
+fn begin_there<'a, S: Store>(
+    alloc: Global,
+    options: &PartOptions<'a>,
+    store: &mut S,
+) -> Result<Story<'a>, Refusal>
+    ensures ok { IfOk result (λ story. IsPlanBegun options.now (S.holds store.old) story.plan story.hub) }
+    ensures err { IfErr result (RefusesAs (AreNotBoth options.now.script.now options.now.schedule.now (S.holds store.old))) }
+    ensures same { IsUnchanged (S.holds store.old) (S.holds store.new) }
 {
-    let plan = match read_plan(alloc, true, text) {
-        Ok(plan) => plan,
-        Err(why) => {
-            drop(program);
-            return Err(why);
-        }
-    };
-    if !matches_program(&plan, &program) {
-        drop(program);
-        return Err(Refusal::Wrong(told_size(alloc)?));
-    }
-    match Hub::begin(alloc, program, plan.budget, None) {
-        Ok(hub) => {
-            hub_is_a_run(&hub);
-            Ok((hub, plan))
-        }
-        Err(back) => {
-            drop(back.value);
-            Err(Refusal::Memory)
-        }
-    }
+    let Opened {
+        program,
+        subject,
+        plan,
+        text,
+    } = open_both(alloc, options.script, options.schedule, store)?;
+    let hub = begin(alloc, program, plan.budget)?;
+    Ok(Story {
+        hub,
+        subject,
+        plan,
+        text,
+    })
 }
 
 // Tells the items, from the beginning on, as far as they can happen, and then how the run ended, or why the next one can't.
@@ -168,7 +161,7 @@ fn explain_items<O: Write, E: Write>(
     requires fresh { (out.old.failed ≡ 0) × (err.old.calls ≡ 0) × (err.old.failed ≡ 0) }
     ensures told { let output = between O.contents out.old out.new in
         let errors = between E.contents err.old err.new in
-        PlanTold (plain_subject subject.now) options.now text.now items.now hub.old output errors result }
+        PlanTold items.now hub.old output errors result }
     ensures same_out { out.new.stream.ghost_name ≡ out.old.stream.ghost_name }
     ensures same_err { err.new.stream.ghost_name ≡ err.old.stream.ghost_name }
 {
@@ -195,7 +188,7 @@ fn tell_end<O: Write, E: Write>(
     requires fresh { (out.old.failed ≡ 0) × (err.old.calls ≡ 0) × (err.old.failed ≡ 0) }
     ensures told { let output = between O.contents out.old out.new in
         let errors = between E.contents err.old err.new in
-        spec.EndTold (plain_subject subject.now) hub.now output errors result }
+        spec.EndTold output errors result }
     ensures same_out { out.new.stream.ghost_name ≡ out.old.stream.ghost_name }
     ensures same_err { err.new.stream.ghost_name ≡ err.old.stream.ghost_name }
 {
@@ -221,19 +214,13 @@ fn refuse_item<E: Write>(
     requires fresh { err.old.failed ≡ 0 }
     requires few { count + 1 < 2 ^ 64 }
     ensures told { let errors = between E.contents err.old err.new in
-        spec.ItemRefused subject.now.forms.items text.now hub.now.course.world (count + 1) item.now errors result }
+        spec.ItemRefused (count + 1) errors result }
     ensures same_err { err.new.stream.ghost_name ≡ err.old.stream.ghost_name }
 {
     let forms = subject.forms.as_slice();
     match explain_item(alloc, forms, text, hub, count + 1, item) {
-        Ok(told) => {
-            say(err, told.as_slice());
-            REFUSED
-        }
-        Err(AllocError) => {
-            say(err, b"memory\n");
-            5
-        }
+        Ok(told) => refuse(Refusal::Told(told, REFUSED), err),
+        Err(AllocError) => refuse(Refusal::Memory, err),
     }
 }
 
@@ -268,16 +255,21 @@ fn tell_items<O: Write>(
     requires start { IsAtStart hub.old.course.program hub.old.budget None hub.old }
     requires fresh { out.old.failed ≡ 0 }
     ensures ok { let output = between O.contents out.old out.new in
-        IfOk result (λ count. HasToldFirst options.now (tale_for (plain_subject subject.now) (length items.now)) hub.old items.now count hub.new [] output) }
+        IfOk result (λ count. HasToldFirst hub.old items.now count hub.new output) }
     ensures err { let output = between O.contents out.old out.new in
-        IfErr result (λ why. StoryCut options.now (tale_for (plain_subject subject.now) (length items.now)) hub.old items.now why output) }
+        IfErr result (λ why. IsCutBy why output) }
     ensures same_out { out.new.stream.ghost_name ≡ out.old.stream.ghost_name }
 {
     let text = subject.text.as_slice();
     let forms = subject.forms.as_slice();
-    let mut narrator = Narrator::new(alloc, text, forms, items.len())?;
+    let telling = Telling {
+        forms,
+        options,
+        count: items.len(),
+    };
+    let mut narrator = Narrator::new(alloc, text, forms)?;
     let mut piece = Vec::new(alloc);
-    let count = tell_until(alloc, hub, &mut narrator, &mut piece, items, options, out)?;
+    let count = tell_until(alloc, hub, &mut narrator, &mut piece, items, &telling, out)?;
     spill(&mut piece, out)?;
     Ok(count)
 }
@@ -286,25 +278,24 @@ fn tell_items<O: Write>(
 fn tell_until<O: Write>(
     alloc: Global,
     hub: &mut Hub,
-    narrator: &mut Narrator<'_>,
+    narrator: &mut Narrator,
     piece: &mut Vec<u8>,
     items: &[Item],
-    options: &PartOptions<'_>,
+    telling: &Telling<'_>,
     out: &mut Counting<'_, O>,
 ) -> Result<usize, Halt>
     requires none_out { NoneOut hub.old }
     requires knows { Knows hub.old.course narrator.old }
-    requires none { piece.old.items ≡ [] }
     requires fresh { out.old.failed ≡ 0 }
     ensures ok { let output = between O.contents out.old out.new in
-        IfOk result (λ count. HasToldFirst options.now (tale_of narrator.old) hub.old items.now count hub.new piece.new.items output) }
+        IfOk result (λ count. HasToldFirst hub.old items.now count hub.new output) }
     ensures err { let output = between O.contents out.old out.new in
-        IfErr result (λ why. StoryCut options.now (tale_of narrator.old) hub.old items.now why output) }
+        IfErr result (λ why. IsCutBy why output) }
     ensures same_out { out.new.stream.ghost_name ≡ out.old.stream.ghost_name }
 {
     for count in 0..items.len() {
         let item = items[count];
-        let came = tell_item(alloc, hub, narrator, piece, options, item)?;
+        let came = tell_item(alloc, hub, narrator, piece, telling, item)?;
         if !came {
             return Ok(count);
         }
@@ -317,23 +308,41 @@ fn tell_until<O: Write>(
 fn tell_item(
     alloc: Global,
     hub: &mut Hub,
-    narrator: &mut Narrator<'_>,
+    narrator: &mut Narrator,
     piece: &mut Vec<u8>,
-    options: &PartOptions<'_>,
+    telling: &Telling<'_>,
     item: Item,
 ) -> Result<bool, AllocError>
     requires none_out { NoneOut hub.old }
     requires knows { Knows hub.old.course narrator.old }
-    ensures told { IfOk result (λ came. IsTellingOf options.now (tale_of narrator.old) hub.old.course item came hub.new.course piece.old.items piece.new.items) }
-    ensures budget { IfOk result (λ came. hub.new.budget ≡ hub.old.budget) }
+    ensures follows { IfOk result (λ came. IsFollowed hub.old item came hub.new) }
     ensures none_out { NoneOut hub.new }
-    ensures tale { tale_of narrator.new ≡ tale_of narrator.old }
     ensures knows { IfOk result (λ came. IsTrue came → Knows hub.new.course narrator.new) }
 {
-    if is_asked_for(options, hub.schedule().len() + 1) {
-        narrator.tell(alloc, hub, piece, item)
-    } else {
-        narrator.follow(alloc, hub, item)
+    if !is_asked_for(telling.options, hub.schedule().len() + 1) {
+        return narrator.follow(alloc, hub, item);
+    }
+    let told = narrator.tell(alloc, hub, item)?;
+    let came = push_told(alloc, piece, telling, &told);
+    drop(told);
+    came
+}
+
+// Appends the line of what happened, if anything did. Returns whether it did.
+fn push_told(
+    alloc: Global,
+    piece: &mut Vec<u8>,
+    telling: &Telling<'_>,
+    told: &Option<Happened>,
+) -> Result<bool, AllocError>
+    ensures { IfOk result (λ came. came ≡ is_some told.now) }
+{
+    match told {
+        Some(happened) => {
+            push_happened(alloc, piece, telling.forms, telling.count, happened)?;
+            Ok(true)
+        }
+        None => Ok(false),
     }
 }
 
@@ -352,10 +361,9 @@ fn is_asked_for(options: &PartOptions<'_>, number: usize) -> bool
 // Writes what was told and is not written yet, where that is a piece.
 fn spill_full<O: Write>(piece: &mut Vec<u8>, out: &mut Counting<'_, O>) -> Result<(), WriteFault>
     requires fresh { out.old.failed ≡ 0 }
-    ensures ok { let output = stream (O.contents out.old.stream.now) (O.contents out.new.stream.now) in
-        OnOk result (Spills output piece.old.items piece.new.items × (out.new.failed ≡ 0)) }
-    ensures err { let output = stream (O.contents out.old.stream.now) (O.contents out.new.stream.now) in
-        OnErr result (TakesStart output piece.old.items × (out.new.failed ≡ 1)) }
+    ensures wrote { Writes (stream (O.contents out.old.stream.now) (O.contents out.new.stream.now)) }
+    ensures fine { OnOk result (out.new.failed ≡ 0) }
+    ensures failed { OnErr result (out.new.failed ≡ 1) }
     ensures same_out { out.new.stream.ghost_name ≡ out.old.stream.ghost_name }
 {
     if piece.len() < PIECE {
@@ -368,13 +376,13 @@ fn spill_full<O: Write>(piece: &mut Vec<u8>, out: &mut Counting<'_, O>) -> Resul
 // Writes what was told and is not written yet.
 fn spill<O: Write>(piece: &mut Vec<u8>, out: &mut Counting<'_, O>) -> Result<(), WriteFault>
     requires fresh { out.old.failed ≡ 0 }
-    ensures ok { let output = stream (O.contents out.old.stream.now) (O.contents out.new.stream.now) in
-        OnOk result (Spills output piece.old.items piece.new.items × (out.new.failed ≡ 0) × (piece.new.items ≡ [])) }
-    ensures err { let output = stream (O.contents out.old.stream.now) (O.contents out.new.stream.now) in
-        OnErr result (TakesStart output piece.old.items × (out.new.failed ≡ 1)) }
+    ensures wrote { Writes (stream (O.contents out.old.stream.now) (O.contents out.new.stream.now)) }
+    ensures fine { OnOk result (out.new.failed ≡ 0) }
+    ensures failed { OnErr result (out.new.failed ≡ 1) }
+    ensures emptied { OnOk result (piece.new.items ≡ []) }
     ensures same_out { out.new.stream.ghost_name ≡ out.old.stream.ghost_name }
 {
-    write_out(out, piece.as_slice())?;
+    write_words(out, piece.as_slice())?;
     piece.clear();
     Ok(())
 }

@@ -1,23 +1,23 @@
 //! The command `explore`: a script runs many times, and it is told how the runs end.
 
-ghost use Rattle.std.specs.{Prelude.{◌≡◌, ◌+◌, ◌≤◌, ◌<◌, ◌^◌, [], IfOk, IfErr, IfSome, OnErr, OnOk, Some, length, option_map, true}, Fmt.{decimal}};
+ghost use Rattle.std.specs.{Prelude.{◌≡◌, ◌+◌, ◌≤◌, ◌<◌, ◌^◌, IfOk, IfErr, IfSome, OnErr, OnOk, Some, false, length, option_map, true}, Fmt.{decimal}};
 ghost use Rattle.std.specs.{List.{All}, String.{string_bytes}};
 ghost use Rattle.cml_check.specs.Sizes.{size_of};
-ghost use Rattle.cml_explore.specs.{Answers.{IsToldOfRuns}, Explored.{HasMade, SoFar}};
+ghost use Rattle.cml_explore.specs.Explored.{HasMade, IsExplored, SoFar};
 ghost use Rattle.cml_host.specs.Between.{between};
-ghost use Rattle.cml_host.specs.Exploring.{AreSaved, AsksForRuns, ClassesKept, ExploreOutcome, FilesKept, IsNotSaved, MadeAll, MadeErased, MadeSome, MadeTold, NameRefused, NotShown, ProgramExplored, RunsTold, ScriptExplored, ShownFrom, SomeSaved, StopsBehind, StopsErased, StopsShowing, UnsavedTold, erased, files_from, judged, saved_start, shown_at, shown_next, stop_at};
-ghost use Rattle.cml_host.specs.{Scripts.{plain_script}, Stores.{Shelf, IsSaved}};
+ghost use Rattle.cml_host.specs.Exploring.{AreSaved, AsksForRuns, ClassesKept, ExploreOutcome, FilesKept, IsNotSaved, IsToldOf, MadeTold, ProgramExplored, RunsTold, ScriptExplored, ShowsMarks, SomeSaved, StopsShowing, UnsavedTold, files_from, judged, saved_start, stop_at};
+ghost use Rattle.cml_host.specs.{Narrated.{IsCutBy, Writes}, Refused.{IsUnsaved, RefusesAs}, Scripts.{plain_script}, Stores.{Shelf, IsSaved}};
 ghost use Rattle.cml_host.specs.Exploring as spec;
-ghost use Rattle.cml_host.specs.Running as running;
+ghost use Rattle.cml_host.specs.declared.explain.Halt.TheVariants.{Write};
 ghost use Rattle.cml_hub.specs.Kept.{IsBudget};
 ghost use Rattle.cml_schedule.specs.Written.{schedule_text};
-ghost use Rattle.cml_stream.specs.Streams.{stream, Takes, TakesStart};
+ghost use Rattle.cml_stream.specs.Streams.{stream};
 ghost use Rattle.cml_arguments.specs.Words.{IsDepth, IsRuns, saved_name};
 
 use crate::explain::Halt;
-use crate::output::say;
+use crate::output::{say, write_words};
 use crate::reason::{Reason, with_why};
-use crate::refusal::refuse;
+use crate::refusal::{Refusal, refuse};
 use crate::script::{Script, open_script};
 use crate::servers::find_servers;
 use crate::store::Store;
@@ -26,7 +26,6 @@ use cml_check::Prog;
 use cml_explore::{Asked, Classes, Explored, Order, Until, explain_runs};
 use cml_schedule::{Item, schedule_text};
 use cml_stream::Counting;
-use cml_stream::input_output::{WriteFault, write_out};
 use std::alloc::{AllocError, Global};
 use std::io::Write;
 use std::thread::Threads;
@@ -81,7 +80,7 @@ pub fn explore_file<R: Threads + Sync, O: Write, E: Write, S: Store>(
 {
     match open_script(alloc, options.script, true, store) {
         Ok(script) => explore_opened(rt, alloc, &script, options, terminal, out, err, store),
-        Err(why) => refuse(alloc, options.script, true, why, 2, err),
+        Err(why) => refuse(why, err),
     }
 }
 
@@ -112,7 +111,7 @@ fn explore_opened<R: Threads + Sync, O: Write, E: Write, S: Store>(
             let asked = asked_for(options, servers.as_slice());
             explore_program(rt, alloc, script, options, &asked, shows, out, err, store)
         }
-        Err(why) => refuse(alloc, options.script, true, why, 1, err),
+        Err(why) => refuse(why, err),
     }
 }
 
@@ -172,7 +171,7 @@ fn explore_program<R: Threads + Sync, O: Write, E: Write, S: Store>(
     ensures ran { let output = between O.contents out.old out.new in
         let errors = between E.contents err.old err.new in
         let shelf : Shelf = record { before = S.holds store.old; after = S.holds store.new } in
-        ProgramExplored options.now shows (plain_script script.now) asked.now.servers.now output errors shelf result }
+        ProgramExplored options.now shows script.now.program asked.now.servers.now output errors shelf result }
     ensures same_out { out.new.stream.ghost_name ≡ out.old.stream.ghost_name }
     ensures same_err { err.new.stream.ghost_name ≡ err.old.stream.ghost_name }
 {
@@ -186,10 +185,7 @@ fn explore_program<R: Threads + Sync, O: Write, E: Write, S: Store>(
         err,
     ) {
         Ok(made) => tell_made(alloc, script, options, asked, &made, out, err, store),
-        Err(Halt::Memory) => {
-            say(err, b"memory\n");
-            5
-        }
+        Err(Halt::Memory) => refuse(Refusal::Memory, err),
         Err(Halt::Write) => 1,
     }
 }
@@ -207,10 +203,11 @@ fn explored<R: Threads + Sync, E: Write>(
     requires counts { IsRuns asked.now.runs × IsBudget asked.now.budget }
     requires seeds { asked.now.first + asked.now.runs ≤ 2 ^ 64 }
     requires fresh { err.old.failed ≡ 0 }
+    ensures made { IfOk result (IsExplored program.now asked.now) }
     ensures ok { let errors = between E.contents err.old err.new in
-        IfOk result (λ made. MadeErased program.now asked.now shows made errors) }
+        OnOk result (ShowsMarks shows errors.bytes × (err.new.failed ≡ 0)) }
     ensures err { let errors = between E.contents err.old err.new in
-        IfErr result (λ why. StopsErased shows asked.now.runs why errors) }
+        IfErr result (λ why. StopsShowing shows why errors) }
     ensures same_err { err.new.stream.ghost_name ≡ err.old.stream.ghost_name }
 {
     match make_runs(rt, alloc, program, asked, workers, shows, err) {
@@ -226,7 +223,7 @@ fn explored<R: Threads + Sync, E: Write>(
     }
 }
 
-// Makes one run after another.
+// Makes one run after another, and shows how far it is.
 fn make_runs<R: Threads + Sync, E: Write>(
     rt: &R,
     alloc: Global,
@@ -239,49 +236,23 @@ fn make_runs<R: Threads + Sync, E: Write>(
     requires counts { IsRuns asked.now.runs × IsBudget asked.now.budget }
     requires seeds { asked.now.first + asked.now.runs ≤ 2 ^ 64 }
     requires fresh { err.old.failed ≡ 0 }
+    ensures made { IfOk result (IsExplored program.now asked.now) }
     ensures ok { let errors = between E.contents err.old err.new in
-        IfOk result (λ made. MadeAll program.now asked.now shows made errors) }
+        OnOk result (ShowsMarks shows errors.bytes × (err.new.failed ≡ 0)) }
     ensures err { let errors = between E.contents err.old err.new in
-        IfErr result (λ why. StopsShowing shows asked.now.runs why errors) }
+        IfErr result (λ why. StopsShowing shows why errors) }
     ensures same_err { err.new.stream.ghost_name ≡ err.old.stream.ghost_name }
 {
     let mut made = Explored::new(alloc);
     'runs: while made.runs() < asked.runs {
-        let last = make_some(rt, alloc, program, asked, workers, shows, &mut made, err)?;
+        let before = made.runs();
+        let last = go_on(rt, alloc, program, asked, workers, &mut made)?;
+        show_round(alloc, shows, asked.runs, before, made.runs(), err)?;
         if last {
             return Ok(made);
         }
     }
     Ok(made)
-}
-
-// Makes one run more, or with more workers than one some, and shows that. Returns whether these were the last.
-fn make_some<R: Threads + Sync, E: Write>(
-    rt: &R,
-    alloc: Global,
-    program: &Prog,
-    asked: &Asked<'_>,
-    workers: usize,
-    shows: bool,
-    made: &mut Explored,
-    err: &mut Counting<'_, E>,
-) -> Result<bool, Halt>
-    requires counts { IsRuns asked.now.runs × IsBudget asked.now.budget }
-    requires seeds { asked.now.first + asked.now.runs ≤ 2 ^ 64 }
-    requires so_far { SoFar program.now asked.now made.old }
-    requires left { made.old.runs < asked.now.runs }
-    requires fresh { err.old.failed ≡ 0 }
-    ensures ok { let errors = between E.contents err.old err.new in
-        IfOk result (λ last. MadeSome program.now asked.now shows last made.old made.new errors) }
-    ensures err { let errors = between E.contents err.old err.new in
-        IfErr result (λ why. StopsBehind shows asked.now.runs made.old.runs why errors) }
-    ensures same_err { err.new.stream.ghost_name ≡ err.old.stream.ghost_name }
-{
-    let before = made.runs();
-    let last = go_on(rt, alloc, program, asked, workers, made)?;
-    let count = made.runs();
-    show_from(alloc, shows, asked.runs, before, count, err)?;
-    Ok(last)
 }
 
 // Makes one run more, or with more workers than one some. Returns whether these were the last.
@@ -308,7 +279,7 @@ fn go_on<R: Threads + Sync>(
 }
 
 // Shows that the runs behind the first so many were made, up to that many, where that is shown.
-fn show_from<E: Write>(
+fn show_round<E: Write>(
     alloc: Global,
     shows: bool,
     runs: u64,
@@ -318,60 +289,62 @@ fn show_from<E: Write>(
 ) -> Result<(), Halt>
     requires few { (before ≤ count) × (count ≤ runs) × (runs ≤ 1000000) }
     requires fresh { err.old.failed ≡ 0 }
-    ensures ok { let errors = stream (E.contents err.old.stream.now) (E.contents err.new.stream.now) in
-        OnOk result (ShownFrom shows runs before count errors × (err.new.failed ≡ 0)) }
+    ensures ok { let errors = between E.contents err.old err.new in
+        OnOk result (ShowsMarks shows errors.bytes × (err.new.failed ≡ 0)) }
     ensures err { let errors = between E.contents err.old err.new in
-        IfErr result (λ why. StopsBehind shows runs before why errors) }
+        IfErr result (λ why. StopsShowing shows why errors) }
+    ensures same_err { err.new.stream.ghost_name ≡ err.old.stream.ghost_name }
+{
+    if shows {
+        show_from(alloc, runs, before, count, err)
+    } else {
+        Ok(())
+    }
+}
+
+// The same, where it is shown: a line where they are a percent more.
+fn show_from<E: Write>(
+    alloc: Global,
+    runs: u64,
+    before: u64,
+    count: u64,
+    err: &mut Counting<'_, E>,
+) -> Result<(), Halt>
+    requires few { (before ≤ count) × (count ≤ runs) × (runs ≤ 1000000) }
+    requires fresh { err.old.failed ≡ 0 }
+    ensures ok { let errors = between E.contents err.old err.new in
+        OnOk result (Writes errors.bytes × (err.new.failed ≡ 0)) }
+    ensures err { let errors = between E.contents err.old err.new in
+        IfErr result (λ why. IsCutBy why errors) }
     ensures same_err { err.new.stream.ghost_name ≡ err.old.stream.ghost_name }
 {
     for made in before..count {
-        show_next(alloc, shows, runs, made + 1, err)?;
+        show_next(alloc, runs, made, err)?;
     }
     Ok(())
 }
 
-// Shows that so many of the runs were made, where that is shown.
+// Shows that one run more than so many was made, where they are a percent more.
 fn show_next<E: Write>(
     alloc: Global,
-    shows: bool,
     runs: u64,
-    count: u64,
+    made: u64,
     err: &mut Counting<'_, E>,
 ) -> Result<(), Halt>
-    requires few { (1 ≤ count) × (count ≤ runs) × (runs ≤ 1000000) }
+    requires few { (made < runs) × (runs ≤ 1000000) }
     requires fresh { err.old.failed ≡ 0 }
-    ensures ok { let errors = stream (E.contents err.old.stream.now) (E.contents err.new.stream.now) in
-        OnOk result (Takes errors (shown_next shows runs count) × (err.new.failed ≡ 0)) }
+    ensures ok { let errors = between E.contents err.old err.new in
+        OnOk result (Writes errors.bytes × (err.new.failed ≡ 0)) }
     ensures err { let errors = between E.contents err.old err.new in
-        IfErr result (λ why. NotShown (shown_next shows runs count) why errors) }
+        IfErr result (λ why. IsCutBy why errors) }
     ensures same_err { err.new.stream.ghost_name ≡ err.old.stream.ghost_name }
 {
-    if shows {
-        show(alloc, runs, count, err)
-    } else {
-        Ok(())
-    }
-}
-
-// Shows that so many of the runs were made, where they are a percent more.
-fn show<E: Write>(
-    alloc: Global,
-    runs: u64,
-    count: u64,
-    err: &mut Counting<'_, E>,
-) -> Result<(), Halt>
-    requires few { (1 ≤ count) × (count ≤ runs) × (runs ≤ 1000000) }
-    requires fresh { err.old.failed ≡ 0 }
-    ensures ok { let errors = stream (E.contents err.old.stream.now) (E.contents err.new.stream.now) in
-        OnOk result (Takes errors (shown_at runs count) × (err.new.failed ≡ 0)) }
-    ensures err { let errors = between E.contents err.old err.new in
-        IfErr result (λ why. NotShown (shown_at runs count) why errors) }
-    ensures same_err { err.new.stream.ghost_name ≡ err.old.stream.ghost_name }
-{
-    if percent(runs, count - 1) == percent(runs, count) {
+    let now = percent(runs, made);
+    let next = percent(runs, made + 1);
+    if now == next {
         Ok(())
     } else {
-        show_line(alloc, runs, count, err)
+        show_line(alloc, runs, made + 1, err)
     }
 }
 
@@ -392,35 +365,28 @@ fn show_line<E: Write>(
     err: &mut Counting<'_, E>,
 ) -> Result<(), Halt>
     requires fresh { err.old.failed ≡ 0 }
-    ensures ok { let errors = stream (E.contents err.old.stream.now) (E.contents err.new.stream.now) in
-        OnOk result (Takes errors (spec.progress_line runs count) × (err.new.failed ≡ 0)) }
+    ensures ok { let errors = between E.contents err.old err.new in
+        OnOk result (Writes errors.bytes × (err.new.failed ≡ 0)) }
     ensures err { let errors = between E.contents err.old err.new in
-        IfErr result (λ why. NotShown (spec.progress_line runs count) why errors) }
+        IfErr result (λ why. IsCutBy why errors) }
     ensures same_err { err.new.stream.ghost_name ≡ err.old.stream.ghost_name }
 {
-    let line = progress_line(alloc, runs, count)?;
-    write_out(err, line.as_bytes())?;
+    let line = format!(in alloc; "\r{count} of {runs} runs")?;
+    write_words(err, line.as_bytes())?;
     Ok(())
 }
 
-// The line that tells how far it is.
-fn progress_line(alloc: Global, runs: u64, count: u64) -> Result<String, AllocError>
-    ensures { IfOk result (λ line. string_bytes line ≡ spec.progress_line runs count) }
-{
-    format!(in alloc; "\r{count} of {runs} runs")
-}
-
 // Takes away what is shown, where anything is.
-fn erase<E: Write>(shows: bool, err: &mut Counting<'_, E>) -> Result<(), WriteFault>
+fn erase<E: Write>(shows: bool, err: &mut Counting<'_, E>) -> Result<(), Halt>
     requires fresh { err.old.failed ≡ 0 }
-    ensures ok { let errors = stream (E.contents err.old.stream.now) (E.contents err.new.stream.now) in
-        OnOk result (Takes errors (erased shows) × (err.new.failed ≡ 0)) }
-    ensures err { let errors = stream (E.contents err.old.stream.now) (E.contents err.new.stream.now) in
-        OnErr result (TakesStart errors (erased shows) × (err.new.failed ≡ 1)) }
+    ensures shows { ShowsMarks shows (stream (E.contents err.old.stream.now) (E.contents err.new.stream.now)) }
+    ensures ok { OnOk result (err.new.failed ≡ 0) }
+    ensures err { IfErr result (λ why. (why ≡ Write) × (err.new.failed ≡ 1)) }
     ensures same_err { err.new.stream.ghost_name ≡ err.old.stream.ghost_name }
 {
     if shows {
-        write_out(err, b"\r\x1b[K")
+        write_words(err, b"\r\x1b[K")?;
+        Ok(())
     } else {
         Ok(())
     }
@@ -439,12 +405,11 @@ fn tell_made<O: Write, E: Write, S: Store>(
 ) -> u8
     requires budget { IsBudget asked.now.budget }
     requires seeds { asked.now.first + made.now.runs ≤ 2 ^ 64 }
-    requires steps { asked.now.budget ≡ options.now.steps }
     requires fresh { (out.old.calls ≡ 0) × (out.old.failed ≡ 0) × (err.old.failed ≡ 0) }
     ensures told { let output = between O.contents out.old out.new in
         let errors = between E.contents err.old err.new in
         let shelf : Shelf = record { before = S.holds store.old; after = S.holds store.new } in
-        MadeTold options.now (plain_script script.now) asked.now made.now output errors shelf result }
+        MadeTold options.now script.now.program made.now output errors shelf result }
     ensures same_out { out.new.stream.ghost_name ≡ out.old.stream.ghost_name }
     ensures same_err { err.new.stream.ghost_name ≡ err.old.stream.ghost_name }
 {
@@ -459,10 +424,7 @@ fn tell_made<O: Write, E: Write, S: Store>(
             err,
             store,
         ),
-        Err(AllocError) => {
-            say(err, b"memory\n");
-            5
-        }
+        Err(AllocError) => refuse(Refusal::Memory, err),
     }
 }
 
@@ -476,8 +438,6 @@ fn told_of(
 ) -> Result<Vec<u8>, AllocError>
     requires budget { IsBudget asked.now.budget }
     requires seeds { asked.now.first + made.now.runs ≤ 2 ^ 64 }
-    ensures { let s = plain_script script.now in
-        IfOk result (λ said. IsToldOfRuns name.now s.text s.forms s.program asked.now made.now said.items) }
 {
     let text = script.text.as_slice();
     let forms = script.forms.as_slice();
@@ -499,11 +459,11 @@ fn tell_said<O: Write, E: Write, S: Store>(
     ensures told { let output = between O.contents out.old out.new in
         let errors = between E.contents err.old err.new in
         let shelf : Shelf = record { before = S.holds store.old; after = S.holds store.new } in
-        RunsTold (saved_start options.now) options.now.steps program.now made.now said.now [] output errors shelf result }
+        RunsTold false (saved_start options.now) options.now.steps program.now made.now output errors shelf result }
     ensures same_out { out.new.stream.ghost_name ≡ out.old.stream.ghost_name }
     ensures same_err { err.new.stream.ghost_name ≡ err.old.stream.ghost_name }
 {
-    match write_out(out, said) {
+    match write_words(out, said) {
         Ok(()) => keep_files(
             alloc,
             program,
@@ -533,7 +493,7 @@ fn keep_files<E: Write, S: Store>(
     requires fresh { err.old.failed ≡ 0 }
     ensures kept { let errors = between E.contents err.old err.new in
         let shelf : Shelf = record { before = S.holds store.old; after = S.holds store.new } in
-        ClassesKept (option_map (λ start. start.now) start.entry) budget program.now made.now [] errors shelf result }
+        ClassesKept false (option_map (λ start. start.now) start.entry) budget program.now made.now errors shelf result }
     ensures same_err { err.new.stream.ghost_name ≡ err.old.stream.ghost_name }
 {
     match start {
@@ -562,7 +522,7 @@ fn keep_classes<E: Write, S: Store>(
     requires fresh { err.old.failed ≡ 0 }
     ensures kept { let errors = between E.contents err.old err.new in
         let shelf : Shelf = record { before = S.holds store.old; after = S.holds store.new } in
-        ClassesKept (Some start.now) budget program.now made.now [] errors shelf result }
+        ClassesKept false (Some start.now) budget program.now made.now errors shelf result }
     ensures same_err { err.new.stream.ghost_name ≡ err.old.stream.ghost_name }
 {
     let classes = made.classes();
@@ -577,10 +537,7 @@ fn keep_classes<E: Write, S: Store>(
             err,
             store,
         ),
-        Err(AllocError) => {
-            say(err, b"memory\n");
-            5
-        }
+        Err(AllocError) => refuse(Refusal::Memory, err),
     }
 }
 
@@ -599,7 +556,7 @@ fn keep_ranked<E: Write, S: Store>(
     requires below { All (λ n. n < length made.now.classes) numbers.now }
     ensures kept { let errors = between E.contents err.old err.new in
         let shelf : Shelf = record { before = S.holds store.old; after = S.holds store.new } in
-        FilesKept (files_from start.now budget program.now made.now.classes 1 numbers.now) made.now.well [] errors shelf result }
+        FilesKept false (files_from start.now budget program.now made.now.classes 1 numbers.now) made.now.well errors shelf result }
     ensures same_err { err.new.stream.ghost_name ≡ err.old.stream.ghost_name }
 {
     match save_classes(
@@ -633,7 +590,7 @@ fn save_classes<S: Store>(
 {
     for index in 0..numbers.len() {
         let class = classes.class(numbers[index]);
-        let items = class.tally.shortest();
+        let items = class.summary.shortest();
         save_class(alloc, program, budget, start, index + 1, items, store)?;
     }
     Ok(())
@@ -675,42 +632,25 @@ fn refuse_unsaved<E: Write>(alloc: Global, why: Unsaved, err: &mut Counting<'_, 
         UnsavedTold why errors result }
     ensures same_err { err.new.stream.ghost_name ≡ err.old.stream.ghost_name }
 {
-    match why {
-        Unsaved::Memory => {
-            say(err, b"memory\n");
-            5
-        }
-        Unsaved::Refused(name, why) => refuse_name(alloc, name.as_str(), why, err),
-    }
+    refuse(told_unsaved(alloc, why), err)
 }
 
-// Says that the file of this name can't be written, and why, where that is known.
-fn refuse_name<E: Write>(
-    alloc: Global,
-    name: &str,
-    why: Option<Reason>,
-    err: &mut Counting<'_, E>,
-) -> u8
-    requires fresh { err.old.failed ≡ 0 }
-    ensures told { let errors = between E.contents err.old err.new in
-        NameRefused name.now errors result }
-    ensures same_err { err.new.stream.ghost_name ≡ err.old.stream.ghost_name }
+// How it is told that a file was not saved.
+fn told_unsaved(alloc: Global, why: Unsaved) -> Refusal
+    ensures { RefusesAs (IsToldOf why) result }
 {
-    match unsaved_told(alloc, name, why) {
-        Ok(told) => {
-            say(err, told.as_slice());
-            1
-        }
-        Err(AllocError) => {
-            say(err, b"memory\n");
-            5
-        }
+    match why {
+        Unsaved::Memory => Refusal::Memory,
+        Unsaved::Refused(name, why) => match unsaved_told(alloc, name.as_str(), why) {
+            Ok(told) => Refusal::Told(told, 1),
+            Err(AllocError) => Refusal::Memory,
+        },
     }
 }
 
 // What is told of the file of this name, which can't be written.
 fn unsaved_told(alloc: Global, name: &str, why: Option<Reason>) -> Result<Vec<u8>, AllocError>
-    ensures { IfOk result (λ told. told.items ≡ running.unsaved_told true name.now why) }
+    ensures { IfOk result (λ told. IsUnsaved true name.now told.items) }
 {
     let line = format!(in alloc; "cannot write {name}\n")?;
     with_why(alloc, line.as_bytes(), name, true, why)

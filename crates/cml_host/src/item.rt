@@ -1,11 +1,12 @@
 //! What is told of an item of a schedule that can't happen where it stands.
 
-ghost use Rattle.std.specs.Prelude.{◌≡◌, ◌<◌, ◌^◌, length, IfOk, MatchBool, [], IsTrue};
-ghost use Rattle.cml_host.specs.Replaying.{IsItemExplained, IsLineBehind, SaysSomething};
+ghost use Rattle.std.specs.Prelude.{◌≡◌, ◌<◌, ◌^◌, length, IfOk, MatchBool, [], IsTrue, true};
+ghost use Rattle.cml_host.specs.Plans.{IsItemTold, IsLineBehind, SaysSomething};
 ghost use Rattle.cml_text.specs.{Lines.{lines}, Texts.{Spells}};
 
+use crate::reason::explained;
 use cml_hub::{Hub, Item};
-use cml_narrative::push_why;
+use cml_narrative::{push_why, why_not};
 use cml_text::{Lines, Sexpr, TextFault, read};
 use std::alloc::{AllocError, Global};
 
@@ -23,13 +24,30 @@ pub fn explain_item(
     number: usize,
     item: &Item,
 ) -> Result<Vec<u8>, AllocError>
-    ensures { IfOk result (λ told. IsItemExplained forms.now text.now hub.now.course.world number item.now told.items) }
+    ensures { IfOk result (λ told. IsItemTold true number told.items) }
 {
     let at = item_line(alloc, text, number)?;
-    let mut told = format!(in alloc; "schedule item {number}\nline {at}: ")?.into_bytes();
-    push_why(alloc, &mut told, forms, hub, item)?;
-    told.push(b'\n')?;
-    Ok(told)
+    let mut words = format!(in alloc; "line {at}: ")?.into_bytes();
+    let why = why_not(alloc, hub, item)?;
+    push_why(alloc, &mut words, forms, item, &why)?;
+    words.push(b'\n')?;
+    tell_item(alloc, number, true, words.as_slice())
+}
+
+/// What is told of the item of this number, and behind it these words, where it is explained.
+///
+/// # Errors
+/// Out of memory.
+pub fn tell_item(
+    alloc: Global,
+    number: usize,
+    explains: bool,
+    words: &[u8],
+) -> Result<Vec<u8>, AllocError>
+    ensures { IfOk result (λ told. IsItemTold explains number told.items) }
+{
+    let line = format!(in alloc; "schedule item {number}\n")?;
+    explained(alloc, line.as_bytes(), explains, words)
 }
 
 // The number of the first line that says something behind so many others that do; where there is none, one more than there are lines.

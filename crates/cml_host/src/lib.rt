@@ -1,14 +1,12 @@
 //! The program: what the arguments of its command line ask for, over any input, output and store.
 #![tactic(auto)]
 
-mod check;
 mod close;
 mod command;
 mod draw;
 mod explain;
 mod explore;
 mod file;
-mod fmt;
 mod item;
 mod opening;
 mod output;
@@ -18,7 +16,6 @@ mod refusal;
 mod replay;
 mod reports;
 mod run;
-mod said;
 mod script;
 mod servers;
 mod shrink;

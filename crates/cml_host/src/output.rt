@@ -1,11 +1,11 @@
 //! Writing to the output, and saying what went wrong.
 
-ghost use Rattle.std.specs.Prelude.{◌≡◌};
-ghost use Rattle.cml_host.specs.{Between.{between}, Written.{TextOutcome}};
-ghost use Rattle.cml_stream.specs.Streams.{Says};
+ghost use Rattle.std.specs.Prelude.{◌≡◌, OnErr, OnOk};
+ghost use Rattle.cml_host.specs.{Between.{between}, Narrated.{Writes}, Written.{TextOutcome}};
+ghost use Rattle.cml_stream.specs.Streams.{Says, stream};
 
 use cml_stream::Counting;
-use cml_stream::input_output::write_out;
+use cml_stream::input_output::{WriteFault, write_out};
 use std::io::Write;
 
 /// Writes a text, and returns the status.
@@ -28,6 +28,20 @@ pub fn send_text<O: Write, E: Write>(
             1
         }
     }
+}
+
+/// Writes some words, of which nothing is said here but that they were written.
+///
+/// # Errors
+/// A write failed.
+pub fn write_words<O: Write>(out: &mut Counting<'_, O>, words: &[u8]) -> Result<(), WriteFault>
+    requires fresh { out.old.failed ≡ 0 }
+    ensures wrote { Writes (stream (O.contents out.old.stream.now) (O.contents out.new.stream.now)) }
+    ensures fine { OnOk result (out.new.failed ≡ 0) }
+    ensures failed { OnErr result (out.new.failed ≡ 1) }
+    ensures same_out { out.new.stream.ghost_name ≡ out.old.stream.ghost_name }
+{
+    write_out(out, words)
 }
 
 /// Says what went wrong, as far as it can be said.

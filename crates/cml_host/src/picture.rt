@@ -1,19 +1,21 @@
 //! The picture of a run that is over: how it is made, and how it is saved.
 
 ghost use Rattle.std.specs.Prelude.{◌≡◌, IfOk, Some, is_some, option_map, true};
-ghost use Rattle.cml_host.specs.{Between.{between}, Closed.{drawn_subject, plain_closing, plain_subject}, Drawn.{AllDrawn}, Narrated.{Opens}};
-ghost use Rattle.cml_host.specs.Running.{IsDrawnKept, IsPictureFor, IsRefusalOf, IsRunDrawn, IsSayable, PictureKept, plain_wanted, wanted_of};
+ghost use Rattle.cml_host.specs.{Between.{between}, Drawn.{AllDrawn}, Plans.{Opens}};
+ghost use Rattle.cml_host.specs.Running.{IsDrawnKept, IsPictureFor, IsRefusalOf, IsRunDrawn, IsSayable, PictureKept, wanted_of};
 ghost use Rattle.cml_host.specs.Stores.{Shelf};
 ghost use Rattle.cml_hub.specs.Runs.{stands};
 ghost use Rattle.cml_step.specs.Calls.{text_of};
 
 use crate::close::{Asked, Closing, Subject, say_end};
-use crate::draw::refuse_long;
+use crate::draw::TOO_LONG;
+use crate::opening::begin;
+use crate::output::say;
 use crate::run::{Record, refusal_of, save_record};
 use crate::store::Store;
-use crate::tell::{hub_is_a_run, let_go};
-use cml_draw::{DrawFault, draw};
+use crate::tell::let_go;
 use cml_hub::{Hub, Item};
+use cml_picture::{DrawFault, draw};
 use cml_stream::Counting;
 use std::alloc::{AllocError, Global};
 use std::io::Write;
@@ -40,21 +42,11 @@ pub enum Picture<'a> {
 
 /// The picture that is asked for under this name, where the script is kept.
 pub fn wanted_from<'a>(asked: &'a Asked<'a>, name: Option<&'a str>) -> Option<Wanted<'a>>
-    ensures { option_map plain_wanted result ≡ wanted_of (option_map (λ name. name.now) name.entry) (drawn_subject asked.now) }
+    ensures { option_map (λ wanted. wanted.name.now) result ≡ wanted_of (option_map (λ name. name.now) name.entry) (is_some asked.now.subject) }
 {
     let name = name?;
-    let subject = drawn(asked)?;
+    let subject = asked.subject.as_ref()?;
     Some(Wanted { name, subject })
-}
-
-// The script of which a picture can be drawn.
-fn drawn<'a>(asked: &'a Asked<'a>) -> Option<&'a Subject<'a>>
-    ensures { option_map (λ s. plain_subject s.now) result ≡ drawn_subject asked.now }
-{
-    match &asked.subject {
-        Some(subject) => Some(subject),
-        None => asked.drawn.as_ref(),
-    }
 }
 
 /// What there is to save of the picture that is asked for of the run of this hub.
@@ -66,7 +58,7 @@ pub fn make_picture<'a>(
     hub: &Hub,
     wanted: &Option<Wanted<'a>>,
 ) -> Result<Picture<'a>, AllocError>
-    ensures { IfOk result (λ picture. IsPictureFor (option_map plain_wanted wanted.now) hub.now picture) }
+    ensures { IfOk result (λ picture. IsPictureFor (option_map (λ wanted. wanted.name.now) wanted.now) hub.now picture) }
 {
     match wanted {
         Some(wanted) => make_wanted(alloc, hub, wanted),
@@ -77,7 +69,7 @@ pub fn make_picture<'a>(
 // What there is to save of this picture.
 #[inline(never)]
 fn make_wanted<'a>(alloc: Global, hub: &Hub, wanted: &Wanted<'a>) -> Result<Picture<'a>, AllocError>
-    ensures { IfOk result (λ picture. IsPictureFor (Some (plain_wanted wanted.now)) hub.now picture) }
+    ensures { IfOk result (λ picture. IsPictureFor (Some wanted.now.name.now) hub.now picture) }
 {
     match draw_run(alloc, hub, wanted.subject)? {
         Some(bytes) => {
@@ -90,7 +82,7 @@ fn make_wanted<'a>(alloc: Global, hub: &Hub, wanted: &Wanted<'a>) -> Result<Pict
 
 // The picture of the run of this hub, or none where there is too much to draw.
 fn draw_run(alloc: Global, hub: &Hub, subject: &Subject<'_>) -> Result<Option<Vec<u8>>, AllocError>
-    ensures { IfOk result (λ drawn. IsRunDrawn (plain_subject subject.now) hub.now (option_map (λ bytes. bytes.items) drawn)) }
+    ensures { IfOk result (λ drawn. IsRunDrawn hub.now (option_map (λ bytes. bytes.items) drawn)) }
 {
     let mut again = begin_again(alloc, hub)?;
     let drawn = draw_all(alloc, &mut again, subject, hub.schedule());
@@ -103,16 +95,7 @@ fn begin_again(alloc: Global, hub: &Hub) -> Result<Hub, AllocError>
     ensures { IfOk result (Opens hub.now.course.program hub.now.budget) }
 {
     let program = hub.program().copy()?;
-    match Hub::begin(alloc, program, hub.budget(), None) {
-        Ok(again) => {
-            hub_is_a_run(&again);
-            Ok(again)
-        }
-        Err(back) => {
-            drop(back.value);
-            Err(AllocError)
-        }
-    }
+    begin(alloc, program, hub.budget())
 }
 
 // The picture of these items, which lead somewhere from the beginning of a run on.
@@ -124,7 +107,7 @@ fn draw_all(
 ) -> Result<Option<Vec<u8>>, AllocError>
     requires opens { Opens hub.old.course.program hub.old.budget hub.old }
     requires leads { is_some (stands (text_of hub.old.course.program) items.now) ≡ true }
-    ensures { IfOk result (λ drawn. AllDrawn (plain_subject subject.now) hub.old.course items.now hub.new.course (option_map (λ bytes. bytes.items) drawn)) }
+    ensures { IfOk result (λ drawn. AllDrawn hub.old.course items.now (option_map (λ bytes. bytes.items) drawn)) }
 {
     let text = subject.text.as_slice();
     let forms = subject.forms.as_slice();
@@ -140,7 +123,6 @@ fn draw_all(
 /// Saves the picture, where there is one, and says how the run ended; or says why the picture is not saved. It returns the status.
 pub fn close_with<E: Write, S: Store>(
     alloc: Global,
-    explains: bool,
     picture: &Picture<'_>,
     closing: &Closing,
     err: &mut Counting<'_, E>,
@@ -150,20 +132,22 @@ pub fn close_with<E: Write, S: Store>(
     requires sayable { IsSayable picture.now }
     ensures kept { let errors = between E.contents err.old err.new in
         let shelf : Shelf = record { before = S.holds store.old; after = S.holds store.new } in
-        PictureKept explains picture.now (plain_closing closing.now) errors shelf result }
+        PictureKept closing.now picture.now errors shelf result }
     ensures same_err { err.new.stream.ghost_name ≡ err.old.stream.ghost_name }
 {
     match picture {
         Picture::Unasked => say_end(closing, err),
-        Picture::Drawn(name, made) => save_drawn(alloc, explains, name, made, closing, err, store),
-        Picture::TooMany => refuse_long(err),
+        Picture::Drawn(name, made) => save_drawn(alloc, name, made, closing, err, store),
+        Picture::TooMany => {
+            say(err, TOO_LONG);
+            1
+        }
     }
 }
 
 // Saves the picture under this name, and says how the run ended; or says that it can't be saved.
 fn save_drawn<E: Write, S: Store>(
     alloc: Global,
-    explains: bool,
     name: &str,
     made: &Record,
     closing: &Closing,
@@ -174,10 +158,10 @@ fn save_drawn<E: Write, S: Store>(
     requires sayable { IsRefusalOf name.now made.now }
     ensures kept { let errors = between E.contents err.old err.new in
         let shelf : Shelf = record { before = S.holds store.old; after = S.holds store.new } in
-        IsDrawnKept explains name.now made.now.bytes.items (plain_closing closing.now) errors shelf result }
+        IsDrawnKept closing.now name.now made.now.bytes.items errors shelf result }
     ensures same_err { err.new.stream.ghost_name ≡ err.old.stream.ghost_name }
 {
-    match save_record(alloc, name, explains, made, err, store) {
+    match save_record(alloc, name, closing.words.is_some(), made, err, store) {
         Ok(()) => say_end(closing, err),
         Err(status) => status,
     }

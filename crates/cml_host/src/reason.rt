@@ -1,8 +1,7 @@
 //! Why a file can't be read or written: the reasons, in the words of the system, and the line that says one of them.
 
-ghost use Rattle.std.specs.{Prelude.{◌≡◌, IfOk, Some}, String.{string_bytes}};
-ghost use Rattle.cml_host.specs.Stores.{system_words};
-ghost use Rattle.cml_host.specs.Said as spec;
+ghost use Rattle.std.specs.Prelude.{IfOk};
+ghost use Rattle.cml_host.specs.Refused.{IsExplained};
 
 use std::alloc::{AllocError, Global};
 
@@ -35,9 +34,7 @@ pub enum Reason {
 
 impl Reason {
     /// The reason in the words of the system.
-    pub fn words(self) -> &'static str
-        ensures { result.now ≡ system_words self }
-    {
+    pub fn words(self) -> &'static str {
         match self {
             Reason::NotFound => "No such file or directory",
             Reason::Denied => "Permission denied",
@@ -65,36 +62,34 @@ pub fn with_why(
     explains: bool,
     why: Option<Reason>,
 ) -> Result<Vec<u8>, AllocError>
-    ensures { IfOk result (λ told. told.items ≡ spec.with_why explains name.now why line.now) }
+    ensures { IfOk result (λ told. IsExplained explains line.now told.items) }
 {
     match why {
-        Some(reason) => with_reason(alloc, line, name, explains, reason),
-        None => Vec::from_slice(alloc, line),
+        Some(reason) if explains => {
+            let words = reason.words();
+            let behind = format!(in alloc; "{name}: {words}\n")?;
+            explained(alloc, line, explains, behind.as_bytes())
+        }
+        _ => explained(alloc, line, explains, b""),
     }
 }
 
-// The same where it is known why.
-fn with_reason(
+/// The line, and behind it these words, where it is explained.
+///
+/// # Errors
+/// Out of memory.
+pub fn explained(
     alloc: Global,
     line: &[u8],
-    name: &str,
     explains: bool,
-    reason: Reason,
+    words: &[u8],
 ) -> Result<Vec<u8>, AllocError>
-    ensures { IfOk result (λ told. told.items ≡ spec.with_why explains name.now (Some reason) line.now) }
+    ensures { IfOk result (λ told. IsExplained explains line.now told.items) }
 {
-    let mut told = Vec::from_slice(alloc, line)?;
-    if explains {
-        let behind = reason_line(alloc, name, reason)?;
-        told.extend_from_slice(behind.as_bytes())?;
+    if !explains {
+        return Vec::from_slice(alloc, line);
     }
+    let mut told = Vec::from_slice(alloc, line)?;
+    told.extend_from_slice(words)?;
     Ok(told)
-}
-
-// The line that says why.
-fn reason_line(alloc: Global, name: &str, reason: Reason) -> Result<String, AllocError>
-    ensures { IfOk result (λ told. string_bytes told ≡ spec.reason_line name.now reason) }
-{
-    let words = reason.words();
-    format!(in alloc; "{name}: {words}\n")
 }

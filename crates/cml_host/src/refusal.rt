@@ -1,25 +1,22 @@
-//! Refusals: why a command goes no further with a file, and how that is said to the errors.
+//! Refusals: why a command goes no further, and how that is said; and how a command ends that gives a text.
 
-ghost use Rattle.std.specs.Prelude.{◌≡◌, IfOk};
-ghost use Rattle.cml_host.specs.{Between.{between}, Said.{FaultOutcome, RefusalOutcome, unread_told}};
+ghost use Rattle.std.specs.{Prelude.{◌≡◌, IfOk, IfErr}};
+ghost use Rattle.cml_host.specs.{Between.{between}, Refused.{IsExplained, IsUnread, RefusesAs, TellsRefusal, IsReplied, TellsUnread, unread_line}, Stores.{IsLoaded, IsUnchanged}};
 
-use crate::output::say;
+use crate::output::{say, send_text};
 use crate::reason::{Reason, with_why};
-use crate::store::StoreFault;
+use crate::store::{Store, StoreFault};
 use cml_stream::Counting;
 use std::alloc::{AllocError, Global};
 use std::io::Write;
 use thiserror::Error;
 
-/// Why a command goes no further with a file.
+/// Why a command goes no further.
 #[derive(Debug, Drop, Error)]
 pub enum Refusal {
-    /// It can't be read.
-    #[error("the file can't be read")]
-    Unread(Option<Reason>),
-    /// Its text is refused, and this is for the errors.
-    #[error("the text is refused")]
-    Wrong(Vec<u8>),
+    /// This is for the errors, and this is the status.
+    #[error("the file is refused")]
+    Told(Vec<u8>, u8),
     /// Out of memory.
     #[error("out of memory")]
     Memory,
@@ -36,39 +33,15 @@ impl From<AllocError> for Refusal {
     }
 }
 
-impl From<StoreFault> for Refusal {
-    ghost use Rattle.std.specs.Prelude.{◌≡◌};
-    ghost use Rattle.cml_host.specs.Said.{refusal_of};
-
-    ghost from_gives = { λ fault e. e ≡ refusal_of fault };
-
-    fn from(fault: StoreFault) -> Refusal {
-        match fault {
-            StoreFault::Refused(why) => Refusal::Unread(why),
-            StoreFault::Memory => Refusal::Memory,
-        }
-    }
-}
-
-/// Says why the command goes no further with the file of this name, and returns the status: this one where its text is refused.
-pub fn refuse<E: Write>(
-    alloc: Global,
-    name: &str,
-    explains: bool,
-    why: Refusal,
-    status: u8,
-    err: &mut Counting<'_, E>,
-) -> u8
+/// Says why the command goes no further, and returns the status.
+pub fn refuse<E: Write>(why: Refusal, err: &mut Counting<'_, E>) -> u8
     requires fresh { err.old.failed ≡ 0 }
     ensures refused { let errors = between E.contents err.old err.new in
-        RefusalOutcome explains name.now why status errors result }
+        TellsRefusal why errors result }
     ensures same_err { err.new.stream.ghost_name ≡ err.old.stream.ghost_name }
 {
     match why {
-        Refusal::Unread(reason) => {
-            refuse_file(alloc, name, explains, StoreFault::Refused(reason), err)
-        }
-        Refusal::Wrong(told) => {
+        Refusal::Told(told, status) => {
             say(err, told.as_slice());
             status
         }
@@ -79,27 +52,55 @@ pub fn refuse<E: Write>(
     }
 }
 
-/// Says that the file can't be read, and why, where that is explained; or that memory ran out.
-pub fn refuse_file<E: Write>(
+/// Writes the text that a command gives, or says why it gives none, and returns the status.
+pub fn reply<O: Write, E: Write>(
+    made: Result<Vec<u8>, Refusal>,
+    out: &mut Counting<'_, O>,
+    err: &mut Counting<'_, E>,
+) -> u8
+    requires fresh { (out.old.calls ≡ 0) × (out.old.failed ≡ 0) × (err.old.calls ≡ 0) × (err.old.failed ≡ 0) }
+    ensures replied { let output = between O.contents out.old out.new in
+        let errors = between E.contents err.old err.new in
+        IsReplied made output errors result }
+    ensures same_out { out.new.stream.ghost_name ≡ out.old.stream.ghost_name }
+    ensures same_err { err.new.stream.ghost_name ≡ err.old.stream.ghost_name }
+{
+    match made {
+        Ok(text) => send_text(text.as_slice(), out, err),
+        Err(why) => refuse(why, err),
+    }
+}
+
+/// The first bytes of what lies under the name, at most one more than the limit.
+///
+/// # Errors
+/// The file can't be read, and why, where that is explained; or out of memory.
+pub fn load<S: Store>(
     alloc: Global,
     name: &str,
     explains: bool,
-    fault: StoreFault,
-    err: &mut Counting<'_, E>,
-) -> u8
-    requires fresh { err.old.failed ≡ 0 }
-    ensures refused { let errors = between E.contents err.old err.new in
-        FaultOutcome explains name.now fault errors result }
-    ensures same_err { err.new.stream.ghost_name ≡ err.old.stream.ghost_name }
+    limit: usize,
+    store: &mut S,
+) -> Result<Vec<u8>, Refusal>
+    ensures ok { IfOk result (λ text. IsLoaded (S.holds store.old name.now) limit text.items) }
+    ensures err { IfErr result (RefusesAs (IsUnread explains name.now (S.holds store.old name.now))) }
+    ensures same { IsUnchanged (S.holds store.old) (S.holds store.new) }
 {
-    if let StoreFault::Refused(why) = fault
-        && let Ok(told) = tell_unread(alloc, name, explains, why)
-    {
-        say(err, told.as_slice());
-        return 1;
+    match store.load(alloc, name, limit) {
+        Ok(text) => Ok(text),
+        Err(StoreFault::Refused(why)) => Err(unread(alloc, name, explains, why)),
+        Err(StoreFault::Memory) => Err(Refusal::Memory),
     }
-    say(err, b"memory\n");
-    5
+}
+
+// That the file can't be read, and why, where that is explained.
+fn unread(alloc: Global, name: &str, explains: bool, why: Option<Reason>) -> Refusal
+    ensures { TellsUnread explains name.now result }
+{
+    match tell_unread(alloc, name, explains, why) {
+        Ok(told) => Refusal::Told(told, 1),
+        Err(AllocError) => Refusal::Memory,
+    }
 }
 
 // What is told of a file that can't be read.
@@ -109,7 +110,7 @@ fn tell_unread(
     explains: bool,
     why: Option<Reason>,
 ) -> Result<Vec<u8>, AllocError>
-    ensures { IfOk result (λ told. told.items ≡ unread_told explains name.now why) }
+    ensures { IfOk result (λ told. IsExplained explains (unread_line name.now) told.items) }
 {
     let line = format!(in alloc; "cannot read {name}\n")?;
     with_why(alloc, line.as_bytes(), name, explains, why)

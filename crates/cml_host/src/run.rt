@@ -1,19 +1,17 @@
 //! The command `run`: a script runs to its end, and its schedule is saved where that is asked for.
 
-ghost use Rattle.std.specs.{Prelude.{◌≡◌, ◌++◌, [], codes, Option, IfErr, IfOk, OnOk, option_map}, String.{string_bytes}};
+ghost use Rattle.std.specs.{Prelude.{◌≡◌, ◌||◌, [], IfErr, IfOk, OnOk, is_some, option_map}, String.{string_bytes}};
 ghost use Rattle.cml_hub.specs.Kept.{IsAtStart, IsBudget, IsWatch};
-ghost use Rattle.cml_host.specs.{Between.{between}, Closed.{IsClosing, drawn_subject, plain_asked, plain_closing}};
-ghost use Rattle.cml_host.specs.Running.{RunOutcome, OpenedOutcome, BegunOutcome, ProgramOutcome, EndedOutcome, IsEnded, IsNotEnded, IsMade, IsKept, IsNotKept, IsPictureFor, IsRefusalOf, cannot_save, names_saved, plain_saving, plain_wanted, unsaved_told};
-ghost use Rattle.cml_host.specs.{Scripts.{plain_script}, Stores.{Shelf}, declared.reason.Reason.{Reason}};
-ghost use Rattle.cml_stream.specs.Streams.{Says};
-ghost use Rattle.cml_text.specs.Lines.{line};
+ghost use Rattle.cml_host.specs.{Between.{between}, Closed.{IsClosing, plain_asked}};
+ghost use Rattle.cml_host.specs.Running.{RunOutcome, ScriptOutcome, BegunOutcome, ProgramOutcome, EndedOutcome, IsEnded, IsNotEnded, IsMade, IsKept, IsNotKept, IsPictureFor, IsRefusalOf, PlainSaving, plain_saving, wanted_of};
+ghost use Rattle.cml_host.specs.{Refused.{TellsUnsaved, cannot_save}, Scripts.{plain_script}, Stores.{Shelf}};
 ghost use Rattle.cml_work.specs.Works.{IsWorkerCount};
 
-use crate::close::{Asked, Closing, ask, close, explains};
+use crate::close::{Asked, Closing, ask, close};
 use crate::output::say;
 use crate::picture::{Picture, Wanted, close_with, make_picture, wanted_from};
 use crate::reason::with_why;
-use crate::refusal::refuse;
+use crate::refusal::{Refusal, refuse};
 use crate::script::{Script, open_script};
 use crate::servers::find_servers;
 use crate::store::{Store, StoreFault};
@@ -75,7 +73,7 @@ where
 {
     match open_script(alloc, options.file, explains, store) {
         Ok(script) => run_script(rt, alloc, gate, script, options, explains, out, err, store),
-        Err(why) => refuse(alloc, options.file, explains, why, 2, err),
+        Err(why) => refuse(why, err),
     }
 }
 
@@ -102,7 +100,7 @@ where
     ensures ran { let output = between O.contents out.old out.new in
         let errors = between E.contents err.old err.new in
         let shelf : Shelf = record { before = S.holds store.old; after = S.holds store.new } in
-        OpenedOutcome explains (plain_script script) options.now output errors shelf result }
+        ScriptOutcome explains (plain_script script) options.now output errors shelf result }
     ensures same_out { out.new.stream.ghost_name ≡ out.old.stream.ghost_name }
     ensures same_err { err.new.stream.ghost_name ≡ err.old.stream.ghost_name }
 {
@@ -118,7 +116,7 @@ where
         }
         Err(why) => {
             drop(script);
-            refuse(alloc, options.file, explains, why, 1, err)
+            refuse(why, err)
         }
     }
 }
@@ -129,7 +127,8 @@ fn saving_for<'a>(
     schedule: Option<&'a str>,
     draw: Option<&'a str>,
 ) -> Saving<'a>
-    ensures { plain_saving result ≡ names_saved (option_map (λ name. name.now) schedule.entry) (option_map (λ name. name.now) draw.entry) (drawn_subject asked.now) }
+    ensures { let saving : PlainSaving = record { schedule = option_map (λ name. name.now) schedule.entry; picture = wanted_of (option_map (λ name. name.now) draw.entry) (is_some asked.now.subject) } in
+        plain_saving result ≡ saving }
 {
     let picture = wanted_from(asked, draw);
     Saving { schedule, picture }
@@ -169,8 +168,7 @@ where
         ),
         Err(back) => {
             drop(back.value);
-            say(err, b"memory\n");
-            5
+            refuse(Refusal::Memory, err)
         }
     }
 }
@@ -243,9 +241,9 @@ fn end<O: Write, E: Write, S: Store>(
     let Ok((closing, picture)) = prepare(alloc, hub, asked, saving) else {
         return cut_output(hub.out(), out, err);
     };
-    let is_explained = explains(asked);
-    match tell_and_save(alloc, hub, is_explained, saving.schedule, out, err, store) {
-        Ok(()) => close_with(alloc, is_explained, &picture, &closing, err, store),
+    let explains = closing.words.is_some();
+    match tell_and_save(alloc, hub, explains, saving.schedule, out, err, store) {
+        Ok(()) => close_with(alloc, &picture, &closing, err, store),
         Err(status) => status,
     }
 }
@@ -257,8 +255,8 @@ fn prepare<'a>(
     asked: &Asked<'_>,
     saving: &Saving<'a>,
 ) -> Result<(Closing, Picture<'a>), AllocError>
-    ensures closing { IfOk result (λ made. IsClosing (plain_asked asked.now) hub.now (plain_closing made.0)) }
-    ensures picture { IfOk result (λ made. IsPictureFor (option_map plain_wanted saving.now.picture) hub.now made.1) }
+    ensures closing { IfOk result (λ made. IsClosing (plain_asked asked.now) hub.now made.0) }
+    ensures picture { IfOk result (λ made. IsPictureFor (plain_saving saving.now).picture hub.now made.1) }
 {
     let closing = close(alloc, hub, asked)?;
     let picture = make_picture(alloc, hub, &saving.picture)?;
@@ -361,7 +359,7 @@ fn refuse_record<E: Write>(
     requires fresh { err.old.failed ≡ 0 }
     requires made { IsRefusalOf name.now made.now }
     ensures said { let errors = between E.contents err.old err.new in
-        (why : Option Reason) × Says errors (unsaved_told explains name.now why) }
+        TellsUnsaved explains name.now [] errors }
     ensures status { result ≡ 1 }
     ensures same_err { err.new.stream.ghost_name ≡ err.old.stream.ghost_name }
 {

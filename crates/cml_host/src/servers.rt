@@ -1,7 +1,7 @@
 //! The functions of servers, as the arguments name them.
 
 ghost use Rattle.std.specs.Prelude.{◌≡◌, ◌++◌, IfOk, IfErr, None, OnOk, map, option_map};
-ghost use Rattle.cml_host.specs.{Scripts.{plain_script}, Servers.{IsNotNumbered, numbers_in, unknown_line}};
+ghost use Rattle.cml_host.specs.{Refused.{RefusesAs}, Scripts.{plain_script}, Servers.{IsNoFunction, numbers_in, unknown_line}};
 ghost use Rattle.cml_host.specs.Servers as spec;
 
 use crate::refusal::Refusal;
@@ -16,10 +16,10 @@ use std::alloc::{AllocError, Global};
 pub fn find_servers(alloc: Global, script: &Script, names: &[&str]) -> Result<Vec<u32>, Refusal>
     ensures known { IfOk result (λ _. spec.first_unknown (plain_script script.now) (map (λ name. name.now) names.now) ≡ None) }
     ensures found { IfOk result (λ servers. servers.items ≡ spec.server_numbers (plain_script script.now) (map (λ name. name.now) names.now)) }
-    ensures err { IfErr result (IsNotNumbered (plain_script script.now) (map (λ name. name.now) names.now)) }
+    ensures err { IfErr result (RefusesAs (IsNoFunction (plain_script script.now) (map (λ name. name.now) names.now))) }
 {
     match first_unknown(script, names) {
-        Some(name) => Err(Refusal::Wrong(told_unknown(alloc, name)?)),
+        Some(name) => Err(Refusal::Told(told_unknown(alloc, name)?, 1)),
         None => Ok(numbers(alloc, script, names)?),
     }
 }

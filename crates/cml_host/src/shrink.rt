@@ -1,24 +1,22 @@
 //! The command `shrink`: a shorter schedule of a script, which ends alike.
 
 ghost use Rattle.std.specs.{Prelude.{◌≡◌, IfErr, IfOk, true}, String.{string_bytes}};
+ghost use Rattle.cml_host.specs.{Between.{between}, Refused.{RefusesAs}, Replaying.{HasBadItem}};
+ghost use Rattle.cml_host.specs.{Shrunk.{IsShorter, IsShorterFor, IsUnshrunk, ScheduleTold, ShrinkOutcome}, Stores.{IsUnchanged}};
 ghost use Rattle.cml_check.specs.Sizes.{size_of};
-ghost use Rattle.cml_host.specs.{Between.{between}, Closed.{plain_asked, plain_subject}, Replaying.{IsNoHub, IsNoRun}};
-ghost use Rattle.cml_host.specs.{Shrunk.{IsShorterBy, IsShorterOf, ScheduleTold, ShrinkOutcome, TextShrunk}, Stores.{IsUnchanged}};
-ghost use Rattle.cml_hub.specs.Kept.{IsBudget, FitsSize};
+ghost use Rattle.cml_hub.specs.Kept.{IsBudget};
 ghost use Rattle.cml_schedule.specs.Written.{schedule_text};
-ghost use Rattle.cml_shrink.specs.Counts.{counts_line};
 
-use crate::close::{Asked, Subject, ask_of, explains};
-use crate::opening::{REFUSED, open_both, refuse_opening};
+use crate::opening::{Opened, REFUSED, open_both};
 use crate::output::say;
 use crate::refusal::{Refusal, refuse};
-use crate::replay::{read_plan, told_item, told_size};
+use crate::replay::tell_bad;
 use crate::store::Store;
 use cml_arguments::ShrinkOptions;
 use cml_check::Prog;
-use cml_hub::{Item, Plan, matches_program};
+use cml_hub::{Item, Plan};
 use cml_schedule::schedule_text;
-use cml_shrink::{ShrinkFault, push_counts, shrink};
+use cml_shrink::{ShrinkFault, counts_of, push_counts, shrink};
 use cml_stream::Counting;
 use cml_stream::input_output::write_out;
 use std::alloc::{AllocError, Global};
@@ -48,41 +46,9 @@ pub fn shrink_file<O: Write, E: Write, S: Store>(
     ensures same_out { out.new.stream.ghost_name ≡ out.old.stream.ghost_name }
     ensures same_err { err.new.stream.ghost_name ≡ err.old.stream.ghost_name }
 {
-    match open_both(alloc, options.script, options.schedule, store) {
-        Ok((program, subject, text)) => shrink_text(
-            alloc,
-            program,
-            subject,
-            text.as_slice(),
-            options,
-            out,
-            err,
-        ),
-        Err(why) => refuse_opening(alloc, options.script, options.schedule, why, err),
-    }
-}
-
-// Tells a shorter schedule for the one that the text is.
-fn shrink_text<O: Write, E: Write>(
-    alloc: Global,
-    program: Prog,
-    subject: Subject<'_>,
-    text: &[u8],
-    options: &ShrinkOptions<'_>,
-    out: &mut Counting<'_, O>,
-    err: &mut Counting<'_, E>,
-) -> u8
-    requires fresh { (out.old.calls ≡ 0) × (out.old.failed ≡ 0) × (err.old.failed ≡ 0) }
-    ensures ran { let output = between O.contents out.old out.new in
-        let errors = between E.contents err.old err.new in
-        TextShrunk options.now.tries (plain_subject subject.entry) program text.now output errors result }
-    ensures same_out { out.new.stream.ghost_name ≡ out.old.stream.ghost_name }
-    ensures same_err { err.new.stream.ghost_name ≡ err.old.stream.ghost_name }
-{
-    let asked = ask_of(subject, Vec::new(alloc));
-    match shorter_by(alloc, program, &asked, text, options.tries) {
+    match shrink_there(alloc, options, store) {
         Ok(shorter) => tell_shorter(&shorter, out, err),
-        Err(why) => refuse(alloc, options.schedule, true, why, REFUSED, err),
+        Err(why) => refuse(why, err),
     }
 }
 
@@ -95,7 +61,7 @@ fn tell_shorter<O: Write, E: Write>(
     requires fresh { (out.old.failed ≡ 0) × (err.old.failed ≡ 0) }
     ensures told { let output = between O.contents out.old out.new in
         let errors = between E.contents err.old err.new in
-        ScheduleTold (string_bytes shorter.now.schedule) shorter.now.counts.items output errors result }
+        ScheduleTold (string_bytes shorter.now.schedule) output errors result }
     ensures same_out { out.new.stream.ghost_name ≡ out.old.stream.ghost_name }
     ensures same_err { err.new.stream.ghost_name ≡ err.old.stream.ghost_name }
 {
@@ -111,44 +77,32 @@ fn tell_shorter<O: Write, E: Write>(
     }
 }
 
-// What is told of the shorter schedule for the one that the text is.
-fn shorter_by(
+// What is told of the shorter schedule for the one that lies under its name.
+fn shrink_there<S: Store>(
     alloc: Global,
-    program: Prog,
-    asked: &Asked<'_>,
-    text: &[u8],
-    tries: u64,
+    options: &ShrinkOptions<'_>,
+    store: &mut S,
 ) -> Result<Shorter, Refusal>
-    ensures ok { IfOk result (IsShorterBy program tries text.now) }
-    ensures err { IfErr result (IsNoRun (plain_asked asked.now).subject program text.now) }
+    ensures ok { IfOk result (λ told. IsShorterFor options.now (S.holds store.old) (string_bytes told.schedule)) }
+    ensures err { IfErr result (RefusesAs (IsUnshrunk options.now (S.holds store.old))) }
+    ensures same { IsUnchanged (S.holds store.old) (S.holds store.new) }
 {
-    match read_plan(alloc, explains(asked), text) {
-        Ok(plan) => shorter_of(alloc, program, asked, text, &plan, tries),
-        Err(why) => {
-            drop(program);
-            Err(why)
-        }
-    }
+    let both = open_both(alloc, options.script, options.schedule, store)?;
+    shrink_plan(alloc, both, options.tries)
 }
 
-// For the one of the plan, which this text is.
-fn shorter_of(
-    alloc: Global,
-    program: Prog,
-    asked: &Asked<'_>,
-    text: &[u8],
-    plan: &Plan,
-    tries: u64,
-) -> Result<Shorter, Refusal>
-    requires budget { IsBudget plan.now.budget }
-    ensures size { IfOk result (λ _. FitsSize plan.now.size program) }
-    ensures ok { IfOk result (IsShorterOf program tries plan.now) }
-    ensures err { IfErr result (IsNoHub (plain_asked asked.now).subject program text.now plan.now) }
+// For the schedule that was read.
+fn shrink_plan(alloc: Global, both: Opened<'_>, tries: u64) -> Result<Shorter, Refusal>
+    requires budget { IsBudget both.plan.budget }
+    ensures ok { IfOk result (λ told. IsShorter both.entry.program tries both.entry.plan (string_bytes told.schedule)) }
+    ensures err { IfErr result (RefusesAs (HasBadItem true both.entry.program both.entry.plan)) }
 {
-    if !matches_program(plan, &program) {
-        drop(program);
-        return Err(Refusal::Wrong(told_size(alloc)?));
-    }
+    let Opened {
+        program,
+        subject,
+        plan,
+        text,
+    } = both;
     let items = plan.items.as_slice();
     match shrink(alloc, &program, plan.budget, items, tries) {
         Ok(found) => {
@@ -156,9 +110,17 @@ fn shorter_of(
             drop(program);
             Ok(shorter?)
         }
-        Err(ShrinkFault::BadItem(number)) => Err(Refusal::Wrong(told_item(
-            alloc, program, asked, text, plan, number,
-        )?)),
+        Err(ShrinkFault::BadItem(number)) => {
+            let told = tell_bad(
+                alloc,
+                program,
+                Some(&subject),
+                text.as_slice(),
+                &plan,
+                number,
+            )?;
+            Err(Refusal::Told(told, REFUSED))
+        }
         Err(ShrinkFault::Memory) => {
             drop(program);
             Err(Refusal::Memory)
@@ -174,11 +136,10 @@ fn make_shorter(
     old: &[Item],
     new: &[Item],
 ) -> Result<Shorter, AllocError>
-    ensures schedule { IfOk result (λ told. string_bytes told.schedule ≡ schedule_text budget (size_of program.now) new.now) }
-    ensures counts { IfOk result (λ told. told.counts.items ≡ counts_line old.now new.now) }
+    ensures { IfOk result (λ told. string_bytes told.schedule ≡ schedule_text budget (size_of program.now) new.now) }
 {
     let schedule = schedule_text(alloc, budget, program.size(), new)?;
     let mut counts = Vec::new(alloc);
-    push_counts(alloc, &mut counts, old, new)?;
+    push_counts(alloc, &mut counts, counts_of(old), counts_of(new))?;
     Ok(Shorter { schedule, counts })
 }

@@ -1,8 +1,9 @@
 //! Texts that are read, and what is told of their faults.
 
-ghost use Rattle.std.specs.{Prelude.{◌≡◌, ◌++◌, IfOk}, String.{string_bytes}};
-ghost use Rattle.cml_host.specs.Said.{text_told, script_told};
+ghost use Rattle.std.specs.Prelude.{IfOk};
+ghost use Rattle.cml_host.specs.{Refused.{IsExplained}, Scripts.{script_line, text_line}};
 
+use crate::reason::explained;
 use cml_check::{CheckFault, CheckKind};
 use cml_explain::{explain_script, explain_text};
 use cml_text::{FaultKind, Sexpr, TextFault};
@@ -30,16 +31,16 @@ pub fn tell_text(
     kind: FaultKind,
     at: usize,
 ) -> Result<Vec<u8>, AllocError>
-    ensures { IfOk result (λ told. told.items ≡ text_told source.now.explains source.now.name.now source.now.text.now (record { kind = kind; at = at })) }
+    ensures { IfOk result (λ told. IsExplained source.now.explains (text_line (record { kind = kind; at = at })) told.items) }
 {
     let fault = TextFault::At { kind, at };
     let line = format!(in alloc; "{fault}\n")?;
-    if source.explains {
-        let words = explain_text(alloc, source.name, source.text, kind, at)?;
-        followed(line, words.as_slice())
+    let words = if source.explains {
+        explain_text(alloc, source.name, source.text, kind, at)?
     } else {
-        Ok(line.into_bytes())
-    }
+        Vec::new(alloc)
+    };
+    explained(alloc, line.as_bytes(), source.explains, words.as_slice())
 }
 
 /// What is told of a script of these forms with this fault.
@@ -51,24 +52,14 @@ pub fn tell_script(
     kind: CheckKind,
     at: usize,
 ) -> Result<Vec<u8>, AllocError>
-    ensures { IfOk result (λ told. told.items
-        ≡ script_told source.now.explains source.now.name.now source.now.text.now forms.now (record { kind = kind; at = at })) }
+    ensures { IfOk result (λ told. IsExplained source.now.explains (script_line (record { kind = kind; at = at })) told.items) }
 {
     let fault = CheckFault::At { kind, at };
     let line = format!(in alloc; "{fault}\n")?;
-    if source.explains {
-        let words = explain_script(alloc, source.name, source.text, forms, kind, at)?;
-        followed(line, words.as_slice())
+    let words = if source.explains {
+        explain_script(alloc, source.name, source.text, forms, kind, at)?
     } else {
-        Ok(line.into_bytes())
-    }
-}
-
-// The line, and then the words.
-fn followed(line: String, words: &[u8]) -> Result<Vec<u8>, AllocError>
-    ensures { IfOk result (λ all. all.items ≡ string_bytes line ++ words.now) }
-{
-    let mut all = line.into_bytes();
-    all.extend_from_slice(words)?;
-    Ok(all)
+        Vec::new(alloc)
+    };
+    explained(alloc, line.as_bytes(), source.explains, words.as_slice())
 }

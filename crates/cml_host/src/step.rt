@@ -2,20 +2,21 @@
 
 ghost use Rattle.std.specs.Prelude.{◌≡◌, ◌≤◌, ◌∷◌, [], IfOk, IfErr, OnOk, OnErr, IsTrue, None, Some, option_map};
 ghost use Rattle.cml_check.specs.Sizes.{size_of};
-ghost use Rattle.cml_host.specs.{Between.{between}, Closed.{plain_subject}, Scripts.{plain_script}};
-ghost use Rattle.cml_host.specs.Stepped.{HasTalkCause, HubStepped, IsAnsweredBy, IsHeld, IsNotHeld, IsAtHand, IsTurnLost, IsTurnTaken, IsUnanswered, SavedOutcome, ScriptStepped, StepOutcome, TalkIsCut, by_hand};
+ghost use Rattle.cml_host.specs.{Between.{between}, Narrated.{Writes}, Scripts.{plain_script}};
+ghost use Rattle.cml_host.specs.Stepped.{HasTalkCause, HubStepped, IsAnsweredBy, IsNotHeld, IsAtHand, IsTurnLost, IsTurnTaken, IsUnanswered, SavedOutcome, ScriptStepped, StepOutcome, TalkIsCut, TalksOut};
 ghost use Rattle.cml_host.specs.Stores.{Shelf};
 ghost use Rattle.cml_host.specs.Stepped as spec;
 ghost use Rattle.cml_hub.specs.{Courses.{run_of}, Kept.{IsAtStart, NoneOut}, Runs.{stands}};
+ghost use Rattle.cml_phrase.specs.Spots.{all_places};
 ghost use Rattle.cml_schedule.specs.Written.{schedule_text};
 ghost use Rattle.cml_step.specs.Calls.{text_of};
-ghost use Rattle.cml_stepper.specs.Hands.{script_of, FollowsTo};
-ghost use Rattle.cml_stream.specs.{Counts.{Calls, counted}, Streams.{Stream, stream, IsSpent, Supplies, Takes, TakesStart}};
+ghost use Rattle.cml_stepper.specs.Steppers.{places_known, FollowsTo};
+ghost use Rattle.cml_stream.specs.{Counts.{Calls, counted}, Streams.{Stream, stream, IsSpent, Supplies}};
 ghost use Rattle.cml_trace.specs.{Faults.{IsWriteFailure}, Live.{max_turns, HasTurnCause, IsFlushed}};
 
 use crate::close::{Subject, subject_of};
-use crate::output::say;
-use crate::refusal::refuse;
+use crate::output::{say, write_words};
+use crate::refusal::{Refusal, refuse};
 use crate::run::{make_record, save_record};
 use crate::script::{Script, open_script};
 use crate::store::Store;
@@ -23,9 +24,9 @@ use crate::tell::let_go;
 use crate::trace::{fault_line, fault_status};
 use cml_arguments::StepOptions;
 use cml_hub::Hub;
-use cml_stepper::Stepper;
+use cml_stepper::{Reply, Stepper, push_question, push_reply};
 use cml_stream::Counting;
-use cml_stream::input_output::{WriteFault, write_out};
+use cml_stream::input_output::WriteFault;
 use cml_trace::{MAX_TURNS, TraceFault};
 use std::alloc::{AllocError, Global};
 use std::io::{ErrorKind, Read, Write};
@@ -57,7 +58,7 @@ pub fn step_file<I: Read, O: Write, E: Write, S: Store>(
 {
     match open_script(alloc, options.script, true, store) {
         Ok(script) => step_script(alloc, script, options, input, out, err, store),
-        Err(why) => refuse(alloc, options.script, true, why, 2, err),
+        Err(why) => refuse(why, err),
     }
 }
 
@@ -93,8 +94,7 @@ fn step_script<I: Read, O: Write, E: Write, S: Store>(
         }
         Err(back) => {
             drop(back.value);
-            say(err, b"memory\n");
-            5
+            refuse(Refusal::Memory, err)
         }
     }
 }
@@ -117,7 +117,7 @@ fn step_hub<I: Read, O: Write, E: Write, S: Store>(
         let output = between O.contents out.old out.new in
         let errors = between E.contents err.old err.new in
         let shelf : Shelf = record { before = S.holds store.old; after = S.holds store.new } in
-        HubStepped (by_hand (plain_subject subject.now)) hub.old.course.program (option_map (λ name. name.now) save_as.entry) hub.old given output errors shelf result }
+        HubStepped (all_places subject.now.text.items subject.now.forms.items) hub.old.course.program (option_map (λ name. name.now) save_as.entry) hub.old given output errors shelf result }
     ensures most { input.new.calls ≤ max_turns }
     ensures same_in { input.new.stream.ghost_name ≡ input.old.stream.ghost_name }
     ensures same_out { out.new.stream.ghost_name ≡ out.old.stream.ghost_name }
@@ -150,8 +150,7 @@ fn save<E: Write, S: Store>(
         return 0;
     };
     let Ok(made) = make_record(alloc, hub, name) else {
-        say(err, b"memory\n");
-        return 5;
+        return refuse(Refusal::Memory, err);
     };
     match save_record(alloc, name, true, &made, err, store) {
         Ok(()) => 0,
@@ -172,10 +171,10 @@ fn hold<I: Read, O: Write>(
     requires uncalled { (input.old.calls ≡ 0) × (input.old.failed ≡ 0) × (out.old.failed ≡ 0) }
     ensures ok { let given = stream (I.remaining input.old.stream.now) (I.remaining input.new.stream.now) in
         let output = stream (O.contents out.old.stream.now) (O.contents out.new.stream.now) in
-        OnOk result (IsHeld (by_hand (plain_subject subject.now)) hub.old hub.new given output) }
+        OnOk result (TalksOut (all_places subject.now.text.items subject.now.forms.items) hub.old [] hub.new given output) }
     ensures err { let given = stream (I.remaining input.old.stream.now) (I.remaining input.new.stream.now) in
         let output = stream (O.contents out.old.stream.now) (O.contents out.new.stream.now) in
-        IfErr result (IsNotHeld (by_hand (plain_subject subject.now)) hub.old given output) }
+        IfErr result (IsNotHeld (all_places subject.now.text.items subject.now.forms.items) hub.old given output) }
     ensures cause { let reads : Calls = record { calls = input.new.calls; failed = input.new.failed } in
         let writes : Calls = record { calls = out.new.calls; failed = out.new.failed } in
         HasTalkCause max_turns result reads writes }
@@ -185,8 +184,8 @@ fn hold<I: Read, O: Write>(
 {
     let text = subject.text.as_slice();
     let forms = subject.forms.as_slice();
-    let mut stepper = Stepper::new(alloc, subject.name, text, forms)?;
-    let result = talk(alloc, MAX_TURNS, &mut stepper, hub, input, out);
+    let mut stepper = Stepper::new(alloc, text, forms)?;
+    let result = talk(alloc, MAX_TURNS, &mut stepper, hub, subject, input, out);
     drop(stepper);
     let _led = hub.schedule();
     result
@@ -199,6 +198,7 @@ fn talk<I: Read, O: Write>(
     turns: u64,
     stepper: &mut Stepper<'_>,
     hub: &mut Hub,
+    subject: &Subject<'_>,
     input: &mut Counting<'_, I>,
     out: &mut Counting<'_, O>,
 ) -> Result<(), TraceFault>
@@ -208,10 +208,10 @@ fn talk<I: Read, O: Write>(
     requires uncalled { (input.old.calls ≡ 0) × (input.old.failed ≡ 0) × (out.old.failed ≡ 0) }
     ensures ok { let given = stream (I.remaining input.old.stream.now) (I.remaining input.new.stream.now) in
         let output = stream (O.contents out.old.stream.now) (O.contents out.new.stream.now) in
-        OnOk result (IsHeld (script_of stepper.old) hub.old hub.new given output) }
+        OnOk result (TalksOut (places_known stepper.old) hub.old [] hub.new given output) }
     ensures err { let given = stream (I.remaining input.old.stream.now) (I.remaining input.new.stream.now) in
         let output = stream (O.contents out.old.stream.now) (O.contents out.new.stream.now) in
-        IfErr result (IsNotHeld (script_of stepper.old) hub.old given output) }
+        IfErr result (IsNotHeld (places_known stepper.old) hub.old given output) }
     ensures cause { let reads : Calls = record { calls = input.new.calls; failed = input.new.failed } in
         let writes : Calls = record { calls = out.new.calls; failed = out.new.failed } in
         HasTalkCause turns result reads writes }
@@ -219,11 +219,12 @@ fn talk<I: Read, O: Write>(
     ensures flushed { IsFlushed result out.new.flushed }
     ensures same { (input.new.stream.ghost_name ≡ input.old.stream.ghost_name) × (out.new.stream.ghost_name ≡ out.old.stream.ghost_name) }
 {
-    let asked = stepper.ask(alloc, hub)?;
+    let asked = ask(alloc, stepper, hub, subject)?;
     send(asked.as_slice(), out)?;
+    drop(asked);
     let mut typed = Vec::new(alloc);
     for _ in 0..turns {
-        if take_turn(alloc, stepper, hub, &mut typed, input, out)? {
+        if take_turn(alloc, stepper, hub, subject, &mut typed, input, out)? {
             return Ok(());
         }
     }
@@ -235,6 +236,7 @@ fn take_turn<I: Read, O: Write>(
     alloc: Global,
     stepper: &mut Stepper<'_>,
     hub: &mut Hub,
+    subject: &Subject<'_>,
     typed: &mut Vec<u8>,
     input: &mut Counting<'_, I>,
     out: &mut Counting<'_, O>,
@@ -244,20 +246,20 @@ fn take_turn<I: Read, O: Write>(
     requires fresh { (input.old.failed ≡ 0) × (out.old.failed ≡ 0) }
     ensures ok { let given = stream (I.remaining input.old.stream.now) (I.remaining input.new.stream.now) in
         let output = stream (O.contents out.old.stream.now) (O.contents out.new.stream.now) in
-        IfOk result (λ over. IsTurnTaken (script_of stepper.old) hub.old typed.old.items over typed.new.items hub.new given output) }
+        IfOk result (λ over. IsTurnTaken (places_known stepper.old) hub.old typed.old.items over typed.new.items hub.new given output) }
     ensures err { let given = stream (I.remaining input.old.stream.now) (I.remaining input.new.stream.now) in
         let output = stream (O.contents out.old.stream.now) (O.contents out.new.stream.now) in
-        IfErr result (IsTurnLost (script_of stepper.old) hub.old typed.old.items given output) }
+        IfErr result (IsTurnLost (places_known stepper.old) hub.old typed.old.items given output) }
     ensures asked { input.new.calls ≡ counted input.old.calls }
-    ensures ready { OnOk result (IsAtHand (script_of stepper.old) hub.new stepper.new) }
+    ensures ready { OnOk result (IsAtHand (places_known stepper.old) hub.new stepper.new) }
     ensures flushed { IsTrue out.old.flushed → IsFlushed result out.new.flushed }
     ensures cause { HasTurnCause result input.new.failed out.new.failed }
     ensures same { (input.new.stream.ghost_name ≡ input.old.stream.ghost_name) × (out.new.stream.ghost_name ≡ out.old.stream.ghost_name) }
 {
     let mut byte = [0u8; 1];
     match input.read(&mut byte) {
-        Ok(0) => finish(alloc, stepper, hub, typed.as_slice(), out),
-        Ok(_) => type_byte(alloc, stepper, hub, typed, byte[0], out),
+        Ok(0) => finish(alloc, stepper, hub, subject, typed.as_slice(), out),
+        Ok(_) => type_byte(alloc, stepper, hub, subject, typed, byte[0], out),
         Err(error) => {
             if error.kind() == ErrorKind::Interrupted {
                 Ok(false)
@@ -273,6 +275,7 @@ fn type_byte<O: Write>(
     alloc: Global,
     stepper: &mut Stepper<'_>,
     hub: &mut Hub,
+    subject: &Subject<'_>,
     typed: &mut Vec<u8>,
     byte: u8,
     out: &mut Counting<'_, O>,
@@ -281,10 +284,10 @@ fn type_byte<O: Write>(
     requires there { FollowsTo hub.old.course stepper.old }
     requires fresh { out.old.failed ≡ 0 }
     ensures ok { let output = stream (O.contents out.old.stream.now) (O.contents out.new.stream.now) in
-        (given : Stream) → Supplies given (byte ∷ []) → IfOk result (λ over. IsTurnTaken (script_of stepper.old) hub.old typed.old.items over typed.new.items hub.new given output) }
+        (given : Stream) → Supplies given (byte ∷ []) → IfOk result (λ over. IsTurnTaken (places_known stepper.old) hub.old typed.old.items over typed.new.items hub.new given output) }
     ensures err { let output = stream (O.contents out.old.stream.now) (O.contents out.new.stream.now) in
-        (given : Stream) → Supplies given (byte ∷ []) → OnErr result (TalkIsCut (script_of stepper.old) [] hub.old typed.old.items given output) }
-    ensures ready { OnOk result (IsAtHand (script_of stepper.old) hub.new stepper.new) }
+        (given : Stream) → Supplies given (byte ∷ []) → OnErr result (TalkIsCut (places_known stepper.old) hub.old typed.old.items given output) }
+    ensures ready { OnOk result (IsAtHand (places_known stepper.old) hub.new stepper.new) }
     ensures flushed { IsTrue out.old.flushed → IsFlushed result out.new.flushed }
     ensures failed { IsWriteFailure result out.new.failed }
     ensures same_out { out.new.stream.ghost_name ≡ out.old.stream.ghost_name }
@@ -293,7 +296,7 @@ fn type_byte<O: Write>(
         typed.extend_from_slice(&[byte])?;
         return Ok(false);
     }
-    let ends = reply(alloc, stepper, hub, typed.as_slice(), out)?;
+    let ends = reply(alloc, stepper, hub, subject, typed.as_slice(), out)?;
     typed.clear();
     Ok(ends)
 }
@@ -303,6 +306,7 @@ fn finish<O: Write>(
     alloc: Global,
     stepper: &mut Stepper<'_>,
     hub: &mut Hub,
+    subject: &Subject<'_>,
     typed: &[u8],
     out: &mut Counting<'_, O>,
 ) -> Result<bool, TraceFault>
@@ -310,10 +314,10 @@ fn finish<O: Write>(
     requires there { FollowsTo hub.old.course stepper.old }
     requires fresh { out.old.failed ≡ 0 }
     ensures ok { let output = stream (O.contents out.old.stream.now) (O.contents out.new.stream.now) in
-        (given : Stream) → Supplies given [] → IsSpent given → IfOk result (λ over. IsTurnTaken (script_of stepper.old) hub.old typed.now over typed.now hub.new given output) }
+        (given : Stream) → Supplies given [] → IsSpent given → IfOk result (λ over. IsTurnTaken (places_known stepper.old) hub.old typed.now over typed.now hub.new given output) }
     ensures err { let output = stream (O.contents out.old.stream.now) (O.contents out.new.stream.now) in
-        (given : Stream) → Supplies given [] → OnErr result (TalkIsCut (script_of stepper.old) [] hub.old typed.now given output) }
-    ensures ready { OnOk result (IsAtHand (script_of stepper.old) hub.new stepper.new) }
+        (given : Stream) → Supplies given [] → OnErr result (TalkIsCut (places_known stepper.old) hub.old typed.now given output) }
+    ensures ready { OnOk result (IsAtHand (places_known stepper.old) hub.new stepper.new) }
     ensures flushed { IsTrue out.old.flushed → IsFlushed result out.new.flushed }
     ensures failed { IsWriteFailure result out.new.failed }
     ensures same_out { out.new.stream.ghost_name ≡ out.old.stream.ghost_name }
@@ -321,7 +325,7 @@ fn finish<O: Write>(
     if typed.is_empty() {
         return Ok(true);
     }
-    let _ends = reply(alloc, stepper, hub, typed, out)?;
+    let _ends = reply(alloc, stepper, hub, subject, typed, out)?;
     Ok(true)
 }
 
@@ -330,6 +334,7 @@ fn reply<O: Write>(
     alloc: Global,
     stepper: &mut Stepper<'_>,
     hub: &mut Hub,
+    subject: &Subject<'_>,
     line: &[u8],
     out: &mut Counting<'_, O>,
 ) -> Result<bool, TraceFault>
@@ -337,32 +342,63 @@ fn reply<O: Write>(
     requires there { FollowsTo hub.old.course stepper.old }
     requires fresh { out.old.failed ≡ 0 }
     ensures ok { let output = stream (O.contents out.old.stream.now) (O.contents out.new.stream.now) in
-        IfOk result (λ ends. IsAnsweredBy (script_of stepper.old) hub.old line.now ends hub.new output) }
+        IfOk result (λ ends. IsAnsweredBy (places_known stepper.old) hub.old line.now ends hub.new × Writes output) }
     ensures err { let output = stream (O.contents out.old.stream.now) (O.contents out.new.stream.now) in
-        OnErr result (IsUnanswered (script_of stepper.old) hub.old line.now output) }
-    ensures ready { OnOk result (IsAtHand (script_of stepper.old) hub.new stepper.new) }
+        OnErr result (IsUnanswered (places_known stepper.old) hub.old line.now output) }
+    ensures ready { OnOk result (IsAtHand (places_known stepper.old) hub.new stepper.new) }
     ensures flushed { OnOk result (IsTrue out.new.flushed) }
     ensures failed { IsWriteFailure result out.new.failed }
     ensures same_out { out.new.stream.ghost_name ≡ out.old.stream.ghost_name }
 {
-    let said = stepper.answer(alloc, hub, line)?;
-    send(said.text.as_slice(), out)?;
-    Ok(said.ends)
+    let answer = stepper.answer(alloc, hub, line)?;
+    let ends = answer.ends();
+    let text = words_of(alloc, subject, answer)?;
+    send(text.as_slice(), out)?;
+    Ok(ends)
+}
+
+// The words of an answer.
+fn words_of(alloc: Global, subject: &Subject<'_>, answer: Reply) -> Result<Vec<u8>, AllocError> {
+    let mut text = Vec::new(alloc);
+    push_reply(
+        alloc,
+        &mut text,
+        subject.name,
+        subject.forms.as_slice(),
+        &answer,
+    )?;
+    Ok(text)
+}
+
+// The question: what can happen next.
+fn ask(
+    alloc: Global,
+    stepper: &Stepper<'_>,
+    hub: &Hub,
+    subject: &Subject<'_>,
+) -> Result<Vec<u8>, AllocError> {
+    let question = stepper.ask(alloc, hub)?;
+    let mut text = Vec::new(alloc);
+    push_question(
+        alloc,
+        &mut text,
+        subject.name,
+        subject.forms.as_slice(),
+        &question,
+    )?;
+    Ok(text)
 }
 
 // Writes a text, and flushes it.
 fn send<O: Write>(text: &[u8], out: &mut Counting<'_, O>) -> Result<(), WriteFault>
     requires fresh { out.old.failed ≡ 0 }
-    ensures ok { let output = stream (O.contents out.old.stream.now) (O.contents out.new.stream.now) in
-        OnOk result (Takes output text.now) }
-    ensures err { let output = stream (O.contents out.old.stream.now) (O.contents out.new.stream.now) in
-        OnErr result (TakesStart output text.now) }
+    ensures wrote { Writes (stream (O.contents out.old.stream.now) (O.contents out.new.stream.now)) }
     ensures flushed { OnOk result (IsTrue out.new.flushed) }
     ensures fine { OnOk result (out.new.failed ≡ 0) }
     ensures failed { OnErr result (out.new.failed ≡ 1) }
     ensures same_out { out.new.stream.ghost_name ≡ out.old.stream.ghost_name }
 {
-    write_out(out, text)?;
+    write_words(out, text)?;
     match out.flush() {
         Ok(()) => Ok(()),
         Err(_) => Err(WriteFault),

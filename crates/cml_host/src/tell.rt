@@ -3,7 +3,8 @@
 ghost use Rattle.std.specs.{Prelude.{◌≡◌, ◌⊎◌, ◌++◌, [], IfOk, IfErr, OnOk, OnErr}, String.{string_bytes}};
 ghost use Rattle.cml_hub.specs.Courses.{run_of};
 ghost use Rattle.cml_host.specs.{Between.{between}, Running.{StopOutcome, failed_by}};
-ghost use Rattle.cml_host.specs.Told.{IsCutOff, IsRunOf, IsTold, IsNotTold, OutputNotTold, SaysStill, MemoryBroke, OutputBroke, whole_output, cannot_write};
+ghost use Rattle.cml_host.specs.Told.{IsCutOff, IsRunOf, IsTold, IsNotTold, OutputNotTold, SaysStill, MemoryBroke, OutputBroke, whole_output};
+ghost use Rattle.cml_host.specs.Written.{cannot_write};
 ghost use Rattle.cml_host.specs.Told as spec;
 ghost use Rattle.cml_stream.specs.Streams.{stream, Says, Takes, TakesStart};
 

@@ -1,4 +1,4 @@
-//! The words in which a run is spoken of: whole phrases, written from what is promised of each kind.
+//! The words in which a run is spoken of: whole phrases, one of each kind.
 
 use crate::making::{MEMORY, group, value};
 use cml_phrase::{
@@ -28,7 +28,7 @@ const PLACES: [(u32, usize, &str); 8] = [
 ];
 
 // Base events, and what is said of each in this state.
-const EVENTS: [(&str, ObjectState, &str); 18] = [
+const EVENTS: [(&str, ObjectState, &str); 21] = [
     ("(send 3 5)", ObjectState::Unsaid, "send 5 on channel 3"),
     ("(recv 3)", ObjectState::Unsaid, "receive on channel 3"),
     (
@@ -83,12 +83,19 @@ const EVENTS: [(&str, ObjectState, &str); 18] = [
     ),
     (
         "(join 7)",
+        ObjectState::Runs,
+        "the end of thread 7 phil(1), which runs",
+    ),
+    (
+        "(join 7)",
         ObjectState::Ended,
         "the end of thread 7 phil(1), which has ended",
     ),
     ("(at 30)", ObjectState::Unsaid, "tick 30"),
     ("(after 30)", ObjectState::Unsaid, "after 30"),
+    ("(nack 7)", ObjectState::Fresh, "nack 7, which is fresh"),
     ("(nack 7)", ObjectState::Live, "nack 7, which is live"),
+    ("(nack 7)", ObjectState::Held, "nack 7, which is held"),
     ("(nack 7)", ObjectState::Fired, "nack 7, which is fired"),
     (
         "(always 5)",

@@ -1,5 +1,5 @@
 -- Whether a turn ended at a fault, and what it printed then.
-use Rattle.std.proofs.Common.{◌≡◌, ℕ, ◌+◌, ltb, Bool, true, false, cond, List, [], ◌∷◌, ◌++◌, length, codes, Option, Some, None, refl, sym, ap, ◌∙◌, arith}
+use Rattle.std.proofs.Common.{◌≡◌, ℕ, ◌+◌, ltb, Bool, true, false, cond, List, [], ◌∷◌, ◌++◌, length, Option, Some, None, refl, sym, ap, ◌∙◌, arith}
 use Rattle.std.specs.Prelude.{slice_get, option_map, option_and_then, count_by}
 use Rattle.std.proofs.lemmas.List.Sums.{sum_by-append}
 use Rattle.std.proofs.lemmas.Bool.Decides.{nat_tests}
@@ -10,7 +10,9 @@ use Rattle.cml_schedule.specs.declared.item.Item.TheVariants.{Turn}
 use Rattle.cml_value.specs.declared.number.Tid.{Tid}
 use Rattle.cml_hub.specs.Performed.{PlainDone, goes, gets, spawns, prints, waits, ends, fails, performed}
 use Rattle.cml_hub.specs.Runs.{Run, opening, advance, is_allowed, turned, turned_by, stands, stands_from, output_of}
-use Rattle.cml_narrative.specs.Tales.{did_words, turn_words}
+use Rattle.cml_ending.specs.Waits.{PlainAwaited}
+use Rattle.cml_narrative.specs.declared.deed.Came.{Came}
+use Rattle.cml_narrative.specs.Turns.{EndsAtFault, WentOn, IsCame}
 use Rattle.cml_hub.specs.Deeds.{deed, after_deed, deeds_from, deeds, is_fault, fault_count}
 
 after_append : (d : Option PlainDone) (xs ys : List PlainDone) → after_deed d (xs ++ ys) ≡ after_deed d xs ++ ys
@@ -66,17 +68,17 @@ no_more n m e = grind (arith, nat_tests)
 one_more : (n m : ℕ) → m ≡ n + 1 → ltb n m ≡ true
 one_more n m e = grind (arith, nat_tests)
 
--- the words of a turn: those of a fault where there is one fault more, else what it did
-pub words_are : (K : List ℕ → List ℕ) (words asked : List ℕ) (awaited : Option (List ℕ)) (d : Option PlainDone) (t n m printed : ℕ) (old output : List ℕ) (failed : Bool) →
+-- what came of an ask: a fault where there is one fault more, else it went on
+pub came_is : (came : Came) (awaited : Option PlainAwaited) (number : ℕ) (d : Option PlainDone) (t n m printed : ℕ) (old output : List ℕ) (failed : Bool) →
     failed ≡ ltb n m → m ≡ n + fault_of d → length old ≡ printed → output ≡ old ++ printed_by t d →
-    (failed ≡ false → words ≡ K (did_words asked awaited)) →
-    (failed ≡ true → (before name : List ℕ) → length before ≡ printed → output ≡ before ++ output_of t (fails name) → words ≡ K (codes "ends at a fault: " ++ name)) →
-    words ≡ K (turn_words asked awaited d)
-words_are K words asked awaited None t n m printed old output failed is more len out did fault = did (is ∙ no_more n m more)
-words_are K words asked awaited (Some goes) t n m printed old output failed is more len out did fault = did (is ∙ no_more n m more)
-words_are K words asked awaited (Some (gets a)) t n m printed old output failed is more len out did fault = did (is ∙ no_more n m more)
-words_are K words asked awaited (Some (spawns k f)) t n m printed old output failed is more len out did fault = did (is ∙ no_more n m more)
-words_are K words asked awaited (Some (prints text)) t n m printed old output failed is more len out did fault = did (is ∙ no_more n m more)
-words_are K words asked awaited (Some waits) t n m printed old output failed is more len out did fault = did (is ∙ no_more n m more)
-words_are K words asked awaited (Some ends) t n m printed old output failed is more len out did fault = did (is ∙ no_more n m more)
-words_are K words asked awaited (Some (fails name)) t n m printed old output failed is more len out did fault = fault (is ∙ one_more n m more) old name len out
+    (failed ≡ false → WentOn awaited number came) →
+    (failed ≡ true → (before name : List ℕ) → length before ≡ printed → output ≡ before ++ output_of t (fails name) → EndsAtFault name came) →
+    IsCame d awaited number came
+came_is came awaited number None t n m printed old output failed is more len out went fault = went (is ∙ no_more n m more)
+came_is came awaited number (Some goes) t n m printed old output failed is more len out went fault = went (is ∙ no_more n m more)
+came_is came awaited number (Some (gets a)) t n m printed old output failed is more len out went fault = went (is ∙ no_more n m more)
+came_is came awaited number (Some (spawns k f)) t n m printed old output failed is more len out went fault = went (is ∙ no_more n m more)
+came_is came awaited number (Some (prints text)) t n m printed old output failed is more len out went fault = went (is ∙ no_more n m more)
+came_is came awaited number (Some waits) t n m printed old output failed is more len out went fault = went (is ∙ no_more n m more)
+came_is came awaited number (Some ends) t n m printed old output failed is more len out went fault = went (is ∙ no_more n m more)
+came_is came awaited number (Some (fails name)) t n m printed old output failed is more len out went fault = fault (is ∙ one_more n m more) old name len out

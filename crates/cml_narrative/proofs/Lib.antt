@@ -1,6 +1,5 @@
-pub mod UnitLemmas
-pub mod TaleLemmas
 pub mod FaultLemmas
 pub mod NameLemmas
-pub mod TellLemmas
+pub mod NarratorLemmas
+pub mod TurnLemmas
 pub mod WhyLemmas

@@ -1,81 +1,67 @@
--- What a commit does, in words.
-use Rattle.std.specs.Prelude.{ℕ, List, [], ◌∷◌, ◌++◌, codes, Option, Some, None, option_map, slice_get}
-use Rattle.std.specs.List.{flat_map}
-use Rattle.std.specs.Fmt.{decimal}
-use Rattle.cml_text.specs.Forms.{PlainSexpr}
-use Rattle.cml_value.specs.Value.{PlainValue, PlainFunction, PlainBase, always, send, swap, iget, mtake, mget, mswap, mail_recv, port_recv, join, at_tick, nack}
+-- What a commit does.
+use Rattle.std.specs.Prelude.{◌≡◌, ℕ, List, [], Option, Some, None, option_map}
+use Rattle.cml_value.specs.declared.number.Tid.{Tid}
+use Rattle.cml_value.specs.Value.{PlainValue, PlainFunction, PlainBase, unit, join}
 use Rattle.cml_value.specs.Group.{lost}
-use Rattle.cml_channel.specs.Handed.{handed}
 use Rattle.cml_scan.specs.World.{PlainWorld}
 use Rattle.cml_scan.specs.declared.meet.Meet.{Meet}
 use Rattle.cml_scan.specs.declared.meet.Meet.TheVariants.{Single, Pair}
 use Rattle.cml_group.specs.Leaves.{pick}
 use Rattle.cml_book.specs.Commit.{group_awaited, given}
-use Rattle.cml_phrase.specs.Phrases.{value_words, thread_words}
+use Rattle.cml_ending.specs.declared.awaited.Named.{Named}
+use Rattle.cml_ending.specs.Waits.{who_is}
+use Rattle.cml_narrative.specs.declared.deed.Deed.{Deed}
+use Rattle.cml_narrative.specs.declared.deed.Deed.TheVariants as deed
+use Rattle.cml_narrative.specs.declared.deed.Party.{Party}
+use Rattle.cml_narrative.specs.declared.deed.Took.{Took}
+use Rattle.cml_narrative.specs.declared.deed.Met.{Met}
+use Rattle.cml_narrative.specs.Views.{PlainTaken, plain_taken}
 
--- a thread by its number, with the function with which it began
-abbrev pub named : List PlainSexpr → List PlainFunction → ℕ → List ℕ
-named forms began t = thread_words forms (record { thread = t; began = slice_get began t })
-
--- a value that comes from an object
-abbrev pub gets_words : List ℕ → PlainValue → List ℕ → ℕ → List ℕ
-gets_words verb v object n = verb ++ (value_words v ++ (object ++ decimal n))
-
--- what a thread does with a base event that is taken alone, which gives this value
-abbrev pub alone_words : List PlainSexpr → List PlainFunction → PlainValue → PlainBase → List ℕ
-alone_words forms began v (always x) = codes " takes " ++ (value_words v ++ codes ", which is always ready")
-alone_words forms began v (iget i) = gets_words (codes " reads ") v (codes " from I-variable ") i
-alone_words forms began v (mtake m) = gets_words (codes " takes ") v (codes " from M-variable ") m
-alone_words forms began v (mget m) = gets_words (codes " reads ") v (codes " from M-variable ") m
-alone_words forms began v (mswap m x) = codes " swaps " ++ (value_words x ++ (codes " for " ++ (value_words v ++ (codes " in M-variable " ++ decimal m))))
-alone_words forms began v (mail_recv b) = gets_words (codes " receives ") v (codes " from mailbox ") b
-alone_words forms began v (port_recv p) = gets_words (codes " receives ") v (codes " from port ") p
-alone_words forms began v (join t) = codes " goes on after the end of " ++ named forms began t
-alone_words forms began v (at_tick k) = codes " goes on at tick " ++ decimal k
-alone_words forms began v (nack k) = codes " is told of nack " ++ decimal k
-alone_words forms began v b = codes " goes on"
-
--- what the head of a pair does with the other thread: it sends, or swaps for the other's value
-abbrev pub with_words : List ℕ → PlainBase → PlainBase → List ℕ
-with_words other (send c v) b = codes " sends " ++ (value_words v ++ (codes " on channel " ++ (decimal c ++ (codes " to " ++ other))))
-with_words other (swap s v) b = codes " swaps " ++ (value_words v ++ (codes " for " ++ (value_words (handed b) ++ (codes " on swap channel " ++ (decimal s ++ (codes " with " ++ other))))))
-with_words other a b = codes " meets " ++ other
-
--- what a thread that waits takes at a leaf of its group, if that is there: the base event, and the nacks that fire
-pub record PlainTaken : Type 0 where
-  pub base : PlainBase
-  pub fired : List ℕ
-
+-- what a thread that waits takes at a leaf of its group, if that is there
 abbrev pub taken_at : PlainWorld → ℕ → ℕ → Option PlainTaken
 taken_at w t n = option_map (λ l. record { base = l.base; fired = lost (group_awaited w t) n }) (pick (group_awaited w t) n)
 
-abbrev pub alone_of : List PlainSexpr → List PlainFunction → PlainWorld → Option PlainTaken → List ℕ
-alone_of forms began w None = codes " goes on"
-alone_of forms began w (Some x) = alone_words forms began (given w x.base) x.base
-
-abbrev pub with_of : List ℕ → Option PlainTaken → Option PlainTaken → List ℕ
-with_of other (Some x) (Some y) = with_words other x.base y.base
-with_of other x y = codes " meets " ++ other
-
-abbrev pub row_words : List PlainSexpr → List PlainFunction → PlainWorld → Meet → List ℕ
-row_words forms began w (Single t n) = named forms began t.0 ++ alone_of forms began w (taken_at w t.0 n)
-row_words forms began w (Pair h i o j) = named forms began h.0 ++ with_of (named forms began o.0) (taken_at w h.0 i) (taken_at w o.0 j)
-
--- the nacks that fire: those of the head, then those of the other
+-- the nacks that fire where this is taken
 abbrev pub fired_at : Option PlainTaken → List ℕ
 fired_at None = []
 fired_at (Some x) = x.fired
 
-abbrev pub fired_by : PlainWorld → Meet → List ℕ
-fired_by w (Single t n) = fired_at (taken_at w t.0 n)
-fired_by w (Pair h i o j) = fired_at (taken_at w h.0 i) ++ fired_at (taken_at w o.0 j)
+-- what a base event gave that was taken alone
+abbrev pub value_taken : PlainWorld → Option PlainTaken → PlainValue
+value_taken w None = unit
+value_taken w (Some x) = given w x.base
 
-abbrev pub and_number : ℕ → List ℕ
-and_number n = codes ", " ++ decimal n
+-- the thread whose end this base event waits for
+abbrev pub joined_by : PlainBase → Option Tid
+joined_by (join t) = Some (record { 0 = t })
+joined_by b = None
 
-abbrev pub fired_words : List ℕ → List ℕ
-fired_words [] = codes "; nacks fired: none"
-fired_words (n ∷ ns) = codes "; nacks fired: " ++ (decimal n ++ flat_map and_number ns)
+abbrev pub joined_named : List PlainFunction → Option Tid → Option Named
+joined_named began None = None
+joined_named began (Some t) = Some (who_is began t.0)
 
-abbrev pub commit_words : List PlainSexpr → List PlainFunction → PlainWorld → Meet → List ℕ
-commit_words forms began w row = codes "commit: " ++ (row_words forms began w row ++ fired_words (fired_by w row))
+abbrev pub joined_in : List PlainFunction → Option PlainTaken → Option Named
+joined_in began None = None
+joined_in began (Some x) = joined_named began (joined_by x.base)
+
+-- a thread, and what it takes at this leaf
+pub record TakesPart (began : List PlainFunction) (w : PlainWorld) (t n : ℕ) (x : Party) : Type 0 where
+  pub thread : x.thread ≡ who_is began t
+  pub takes : option_map plain_taken x.chosen ≡ taken_at w t n
+
+-- a thread takes what is at this leaf alone: it is given a value, or told of the end of another thread
+pub record IsTook (began : List PlainFunction) (w : PlainWorld) (t n : ℕ) (x : Took) : Type 0 where
+  pub taker : TakesPart began w t n x.taker
+  pub value : x.value ≡ value_taken w (taken_at w t n)
+  pub joined : x.joined ≡ joined_in began (taken_at w t n)
+
+-- two threads meet at these leaves
+pub record IsMet (began : List PlainFunction) (w : PlainWorld) (h i o j : ℕ) (x : Met) : Type 0 where
+  pub head : TakesPart began w h i x.head
+  pub other : TakesPart began w o j x.other
+
+-- what the commit of a row does in a world
+abbrev pub IsRowDeed : List PlainFunction → PlainWorld → Meet → Deed → Type 0
+IsRowDeed began w (Single t n) (deed.Took x) = IsTook began w t.0 n x
+IsRowDeed began w (Pair h i o j) (deed.Met x) = IsMet began w h.0 i o.0 j x
+IsRowDeed began w row d = ⊥

@@ -1,7 +1,6 @@
-pub mod Asked
-pub mod Commits
-pub mod Lines
-pub mod Tales
-pub mod Tellers
-pub mod Whys
+pub mod Turns
 pub mod Views
+pub mod Commits
+pub mod Deeds
+pub mod Narrators
+pub mod Whys

@@ -1,16 +1,22 @@
-//! What happened in a run, item by item, in words.
+//! What happened in a run, item by item; and why an item can't happen.
 #![tactic(auto)]
 
-mod asked;
 mod commit;
+mod commit_words;
+mod deed;
+mod fault;
 mod line;
 mod narrator;
 mod plan;
 mod tell;
-mod teller;
+mod turn_words;
 mod why;
+mod why_words;
 
-pub use commit::{fired_at, given_value, handed_value, leaves_of, push_more_nacks, taken_at};
+pub use commit::{given_value, handed_value, leaves_of, taken_at};
+pub use commit_words::push_more_nacks;
+pub use deed::{Came, Deed, Happened, Met, Party, Took, Turned};
+pub use line::push_happened;
 pub use narrator::Narrator;
-pub use teller::Teller;
-pub use why::{first_running, push_why};
+pub use why::{ThreadState, Why, first_running, next_tick, why_not};
+pub use why_words::push_why;

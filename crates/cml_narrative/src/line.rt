@@ -1,55 +1,60 @@
-//! The lines of a narrative, and their numbers.
+//! The line of an item that happened.
 
-ghost use Rattle.std.specs.{Prelude.{◌≡◌, ◌++◌, ◌-◌, ◌∷◌, [], IfOk, OnOk, length, max, codes}, Fmt.{decimal}};
-ghost use Rattle.cml_narrative.specs.Lines as spec;
-
+use crate::commit_words::{push_met, push_took};
+use crate::deed::{Deed, Happened};
+use crate::turn_words::push_turned;
 use cml_phrase::push_numbered;
+use cml_text::Sexpr;
 use std::alloc::{AllocError, Global};
 
 // Where a line says how much could happen.
 const COULD_COLUMN: usize = 90;
 
-/// How many digits a number has.
-pub(crate) fn number_digits(alloc: Global, number: usize) -> Result<usize, AllocError>
-    ensures { IfOk result (λ digits. digits ≡ length (decimal number)) }
-{
-    let text = format!(in alloc; "{number}")?;
-    Ok(text.len())
-}
-
 // Appends so many spaces.
-fn push_spaces(alloc: Global, out: &mut Vec<u8>, count: usize) -> Result<(), AllocError>
-    ensures { OnOk result (out.new.items ≡ out.old.items ++ spec.spaces count) }
-{
+fn push_spaces(alloc: Global, out: &mut Vec<u8>, count: usize) -> Result<(), AllocError> {
     let spaces = " ".repeat(alloc, count)?;
     out.extend_from_slice(spaces.as_bytes())
 }
 
-/// The number of an item, right-aligned, and two spaces.
-pub(crate) fn number_words(
+// Appends the number of an item, right-aligned under those of so many, and two spaces.
+fn push_number(
     alloc: Global,
-    digits: usize,
+    out: &mut Vec<u8>,
+    count: usize,
     number: usize,
-) -> Result<Vec<u8>, AllocError>
-    ensures { IfOk result (λ words. words.items ≡ spec.number_words digits number) }
-{
-    let text = format!(in alloc; "{number}")?;
-    let mut words = Vec::new(alloc);
-    push_spaces(alloc, &mut words, digits.saturating_sub(text.len()))?;
-    words.extend_from_slice(text.as_bytes())?;
-    words.extend_from_slice(b"  ")?;
-    Ok(words)
+) -> Result<(), AllocError> {
+    let widest = format!(in alloc; "{count}")?;
+    let text = format!(in alloc; "{number}  ")?;
+    push_spaces(
+        alloc,
+        out,
+        (widest.len().saturating_add(2)).saturating_sub(text.len()),
+    )?;
+    out.extend_from_slice(text.as_bytes())
 }
 
-// Appends how much could happen, behind so many bytes.
+// Appends what an item did.
+fn push_deed(
+    alloc: Global,
+    out: &mut Vec<u8>,
+    forms: &[Sexpr],
+    deed: &Deed,
+) -> Result<(), AllocError> {
+    match deed {
+        Deed::Turned(turned) => push_turned(alloc, out, forms, turned),
+        Deed::Took(took) => push_took(alloc, out, forms, took),
+        Deed::Met(met) => push_met(alloc, out, forms, met),
+        Deed::Moved(tick) => push_numbered(alloc, out, b"the time moves to tick ", *tick),
+    }
+}
+
+// Appends how much could happen, behind so many bytes of a line.
 fn push_could(
     alloc: Global,
     out: &mut Vec<u8>,
     width: usize,
     count: usize,
-) -> Result<(), AllocError>
-    ensures { OnOk result (out.new.items ≡ out.old.items ++ spec.could_words width count) }
-{
+) -> Result<(), AllocError> {
     if count == 0 {
         return Ok(());
     }
@@ -58,16 +63,21 @@ fn push_could(
     out.extend_from_slice(b" could happen")
 }
 
-/// Appends a line of these words, and how much could happen, if anything could.
-pub(crate) fn push_told(
+/// Appends the line of an item that happened, of so many: `12  thread 1 worker(2) at 4:5 prints 7`.
+///
+/// # Errors
+/// Out of memory.
+pub fn push_happened(
     alloc: Global,
     out: &mut Vec<u8>,
-    words: &[u8],
+    forms: &[Sexpr],
     count: usize,
-) -> Result<(), AllocError>
-    ensures { OnOk result (out.new.items ≡ out.old.items ++ spec.told_line words.now count) }
-{
-    out.extend_from_slice(words)?;
-    push_could(alloc, out, words.len(), count)?;
+    happened: &Happened,
+) -> Result<(), AllocError> {
+    let begun = out.len();
+    push_number(alloc, out, count, happened.number)?;
+    push_deed(alloc, out, forms, &happened.deed)?;
+    let width = out.len().saturating_sub(begun);
+    push_could(alloc, out, width, happened.could)?;
     out.extend_from_slice(b"\n")
 }

@@ -1,28 +1,27 @@
 //! How the items of a run are told.
 
-ghost use Rattle.std.specs.Prelude.{◌≡◌, ◌++◌, ◌==◌, ◌∷◌, [], ℕ, List, IsTrue, IfOk, OnOk, true, false, length, drop, codes, option_and_then, nat_lt, if◌then◌else◌};
-ghost use Rattle.std.specs.Fmt.{decimal};
+ghost use Rattle.std.specs.Prelude.{◌≡◌, ◌++◌, ◌==◌, [], ℕ, List, IfOk, IfSome, IsTrue, is_some, true, false, length, map, option_and_then, option_map, if◌then◌else◌};
+ghost use Rattle.cml_ending.specs.{Standings.{spot_place}, Takes.{taker_in}, Waits.{awaited_of, who_is}};
 ghost use Rattle.cml_hub.specs.{Courses.{PlainCourse, TakesRow}, Kept.{NoneOut, IsFollowed}, Performed.{fails}, Runs.{output_of}};
-ghost use Rattle.cml_ending.specs.Lines.{spot_place};
 ghost use Rattle.cml_phrase.specs.Spots.{all_places};
-ghost use Rattle.cml_narrative.specs.{Lines.{number_words}, Tales.{Plans, ToldSo}, Tellers.{tale_of, Knows, awaited_of, turn_head}};
-ghost use Rattle.cml_narrative.specs.Tales as spec;
+ghost use Rattle.cml_narrative.specs.{Deeds.{HasHappened}, Narrators.{places_of, Knows}, Turns.{began_in, waits_on, IsOutcome, EndsAtFault, WentOn, Plans}};
+ghost use Rattle.cml_narrative.specs.Deeds as spec;
 
-use crate::asked::push_two;
-use crate::line::{number_digits, number_words, push_told};
+use crate::commit::row_deed;
+use crate::deed::{Came, Deed, Happened, Turned};
+use crate::fault::fault_of;
 use crate::narrator::Narrator;
 use crate::plan::{Planned, next_plan};
-use crate::teller::Teller;
-use cml_ending::{Spot, Takers, push_awaited};
+use cml_ending::{Spot, Takers, awaited_of, who_is};
 use cml_hub::{Hub, Item};
-use cml_phrase::{Place, push_line, push_numbered, statement_place, statement_places};
+use cml_phrase::{Place, statement_place, statement_places};
 use cml_scan::{Meet, Table};
 use cml_text::Sexpr;
 use cml_value::Tid;
 use std::alloc::{AllocError, Global};
 
-/// How many events could happen in this hub.
-pub(crate) fn could_count(hub: &Hub) -> usize
+// How many events could happen in this hub.
+fn could_count(hub: &Hub) -> usize
     ensures { result ≡ spec.could_count hub.now.course.world }
 {
     hub.book().table().head_count()
@@ -35,46 +34,53 @@ fn new_count(hub: &Hub, before: usize) -> usize
     if before == 0 { could_count(hub) } else { 0 }
 }
 
-impl<'a> Narrator<'a> {
-    /// Tells of a run of the program of this text and these forms, from its first item on. `count` is how many items there are to be told:
-    /// the numbers of lines are as wide as it.
-    ///
-    /// # Errors
-    /// Out of memory.
-    #[tactic(auto, using(crate::proofs::TaleLemmas::begun_knows))]
-    pub fn new(
-        alloc: Global,
-        text: &'a [u8],
-        forms: &'a [Sexpr],
-        count: usize,
-    ) -> Result<Narrator<'a>, AllocError>
-        ensures tale { IfOk result (λ n. tale_of n
-            ≡ record { text = text.now; forms = forms.now; digits = length (decimal count) }) }
-        ensures knows { IfOk result (λ n. (c : PlainCourse) → c.items ≡ [] → Knows c n) }
-    {
-        let digits = number_digits(alloc, count)?;
-        let places = statement_places(alloc, text, forms)?;
-        Ok(Narrator {
-            text,
-            forms,
-            places,
-            takers: Takers::new(alloc),
-            digits,
-        })
+// The item that happened last in this hub.
+fn happened(hub: &Hub, could: usize, deed: Deed) -> Happened
+    ensures number { result.number ≡ length hub.now.course.items }
+    ensures could { result.could ≡ could }
+    ensures did { result.deed ≡ deed }
+{
+    Happened {
+        number: hub.schedule().len(),
+        could,
+        deed,
     }
 }
 
-impl Narrator<'_> {
+impl Narrator {
+    /// Tells of a run of the program of this text and these forms, from its first item on.
+    ///
+    /// # Errors
+    /// Out of memory.
+    #[tactic(auto, using(crate::proofs::NarratorLemmas::begun_knows))]
+    pub fn new(alloc: Global, text: &[u8], forms: &[Sexpr]) -> Result<Narrator, AllocError>
+        ensures places { IfOk result (λ n. places_of n ≡ all_places text.now forms.now) }
+        ensures knows { IfOk result (λ n. (c : PlainCourse) → c.items ≡ [] → Knows c n) }
+    {
+        let places = statement_places(alloc, text, forms)?;
+        Ok(Narrator {
+            places,
+            takers: Takers::new(alloc),
+        })
+    }
+
+    /// Where the statements of the program stand.
+    pub fn places(&self) -> &[Vec<Place>]
+        ensures { map (λ own. own.items) result.now ≡ places_of self.now }
+    {
+        self.places.as_slice()
+    }
+
     /// The item happens in the hub, where it may; nothing is told. Returns whether it happened.
     ///
     /// # Errors
     /// Out of memory.
-    #[tactic(auto, using(crate::proofs::TaleLemmas::followed_knows))]
+    #[tactic(auto, using(crate::proofs::NarratorLemmas::followed_knows))]
     pub fn follow(&mut self, alloc: Global, hub: &mut Hub, item: Item) -> Result<bool, AllocError>
         requires { NoneOut hub.old }
         ensures follows { IfOk result (λ came. IsFollowed hub.old item came hub.new) }
         ensures none_out { NoneOut hub.new }
-        ensures tale { tale_of self.new ≡ tale_of self.old }
+        ensures places { places_of self.new ≡ places_of self.old }
         ensures knows { IfOk result (λ came. IsTrue came → Knows hub.old.course self.old → Knows hub.new.course self.new) }
     {
         self.takers.follow(alloc, hub, &item)?;
@@ -82,8 +88,7 @@ impl Narrator<'_> {
         Ok(came)
     }
 
-    /// The item happens in the hub, where it may, and its line is appended: its number, what it does to the world in which it stands, and a
-    /// line feed. Returns whether it happened; where it may not, nothing is appended.
+    /// The item happens in the hub, where it may. Returns what it did, if it happened.
     ///
     /// # Errors
     /// Out of memory.
@@ -91,35 +96,26 @@ impl Narrator<'_> {
         &mut self,
         alloc: Global,
         hub: &mut Hub,
-        out: &mut Vec<u8>,
         item: Item,
-    ) -> Result<bool, AllocError>
+    ) -> Result<Option<Happened>, AllocError>
         requires { NoneOut hub.old }
-        ensures told { Knows hub.old.course self.old → IfOk result (λ came. ToldSo (tale_of self.old) hub.old.course item came hub.new.course out.old.items out.new.items) }
-        ensures follows { IfOk result (λ came. IsFollowed hub.old item came hub.new) }
+        ensures told { Knows hub.old.course self.old → IfOk result (λ told. IfSome told (HasHappened (places_of self.old) hub.old.course item hub.new.course)) }
+        ensures follows { IfOk result (λ told. IsFollowed hub.old item (is_some told) hub.new) }
         ensures none_out { NoneOut hub.new }
-        ensures tale { tale_of self.new ≡ tale_of self.old }
-        ensures knows { IfOk result (λ came. IsTrue came → Knows hub.old.course self.old → Knows hub.new.course self.new) }
+        ensures places { places_of self.new ≡ places_of self.old }
+        ensures knows { IfOk result (λ told. IsTrue (is_some told) → Knows hub.old.course self.old → Knows hub.new.course self.new) }
     {
         match item {
-            Item::Turn(thread) => self.tell_turn(alloc, hub, out, thread),
-            Item::Meet(row) => self.tell_commit(alloc, hub, out, item, row),
-            Item::Exchange(row) => self.tell_commit(alloc, hub, out, item, row),
-            Item::Clock(tick) => self.tell_clock(alloc, hub, out, tick),
+            Item::Turn(thread) => self.tell_turn(alloc, hub, thread),
+            Item::Meet(row) => self.tell_row(alloc, hub, item, row),
+            Item::Exchange(row) => self.tell_row(alloc, hub, item, row),
+            Item::Clock(tick) => self.tell_clock(alloc, hub, tick),
         }
-    }
-
-    // The number of the last item, and two spaces.
-    fn numbered(&self, alloc: Global, hub: &Hub) -> Result<Vec<u8>, AllocError>
-        ensures { IfOk result (λ words. words.items
-            ≡ number_words self.now.digits (length hub.now.course.items)) }
-    {
-        number_words(alloc, self.digits, hub.schedule().len())
     }
 
     // The place of a spot, if it is known.
     fn place_of(&self, spot: Option<Spot>) -> Option<Place>
-        ensures { result ≡ option_and_then (spot_place (all_places self.now.text.now self.now.forms.now)) spot }
+        ensures { result ≡ option_and_then (spot_place (places_of self.now)) spot }
     {
         match spot {
             Some(spot) => match spot.statement {
@@ -130,166 +126,173 @@ impl Narrator<'_> {
         }
     }
 
-    // Appends where a thread stands, and a space.
-    fn push_spot(
-        &self,
-        alloc: Global,
-        out: &mut Vec<u8>,
-        spot: Option<Spot>,
-    ) -> Result<(), AllocError>
-        ensures { let places = all_places self.now.text.now self.now.forms.now in
-            OnOk result (out.new.items ≡ out.old.items
-            ++ spec.placed_words (option_and_then (spot_place places) spot)) }
-    {
-        match self.place_of(spot) {
-            Some(place) => {
-                out.extend_from_slice(b" at ")?;
-                push_line(alloc, out, place)?;
-                out.extend_from_slice(b" ")
-            }
-            None => out.extend_from_slice(b" "),
-        }
-    }
-
-    // Appends what a turn did that ended at no fault: what was asked, or for what the thread waits.
-    fn push_did(
+    // What came of an ask of a thread at which it did not end at a fault.
+    fn went_on(
         &self,
         alloc: Global,
         hub: &Hub,
-        out: &mut Vec<u8>,
         thread: Tid,
-        asked: &[u8],
-    ) -> Result<(), AllocError>
-        ensures { OnOk result (out.new.items ≡ out.old.items
-            ++ spec.did_words asked.now (awaited_of hub.now.course self.now thread.0)) }
+        number: u64,
+    ) -> Result<Came, AllocError>
+        ensures { let c = hub.now.course in
+            IfOk result (WentOn (option_map (awaited_of c.world (began_in c) (taker_in self.now.takers)) (waits_on c.world thread.0)) number) }
     {
         match hub.book().waiting(thread) {
             Some(group) => {
-                out.extend_from_slice(b"waits: ")?;
-                push_awaited(alloc, out, self.forms, hub, &self.takers, group)
+                let awaited = awaited_of(alloc, hub, &self.takers, group)?;
+                Ok(Came::Waits(awaited))
             }
-            None => out.extend_from_slice(asked),
+            None => Ok(Came::Done(number)),
         }
     }
 
-    // The words of the line of a turn that has come.
-    fn turn_words(
+    // What came of an ask of a thread whose turn has come.
+    fn came_of(
         &self,
         alloc: Global,
         hub: &Hub,
         thread: Tid,
-        plan: &Planned,
+        number: u64,
         failed: bool,
         printed: usize,
-    ) -> Result<Vec<u8>, AllocError>
-        ensures did { failed ≡ false → IfOk result (λ words. words.items
-            ≡ turn_head hub.now.course self.now thread.0 plan.now.spot (spec.did_words plan.now.asked.items (awaited_of hub.now.course self.now thread.0))) }
+    ) -> Result<Came, AllocError>
+        ensures went_on { let c = hub.now.course in
+            failed ≡ false → IfOk result (WentOn (option_map (awaited_of c.world (began_in c) (taker_in self.now.takers)) (waits_on c.world thread.0)) number) }
         ensures fault { failed ≡ true → (before name : List ℕ) → length before ≡ printed
             → hub.now.course.output ≡ before ++ output_of thread.0 (fails name)
-            → IfOk result (λ words. words.items
-            ≡ turn_head hub.now.course self.now thread.0 plan.now.spot (codes "ends at a fault: " ++ name)) }
+            → IfOk result (EndsAtFault name) }
     {
-        let mut words = self.numbered(alloc, hub)?;
-        let teller = Teller {
-            alloc,
-            forms: self.forms,
-            hub,
-        };
-        teller.push_named(&mut words, thread)?;
-        self.push_spot(alloc, &mut words, plan.spot)?;
         if failed {
-            push_fault(alloc, &mut words, hub, thread, printed)?;
+            let name = fault_of(alloc, hub, thread, printed)?;
+            Ok(Came::Failed(name))
         } else {
-            self.push_did(alloc, hub, &mut words, thread, plan.asked.as_slice())?;
+            self.went_on(alloc, hub, thread, number)
         }
-        Ok(words)
     }
 
-    // Tells of a turn.
-    #[tactic(auto, using(crate::proofs::TellLemmas::unfollowed))]
-    fn tell_turn(
+    // The turn comes, where it may. Returns what came of what was asked, if it did.
+    fn turn(
         &mut self,
         alloc: Global,
         hub: &mut Hub,
-        out: &mut Vec<u8>,
         thread: Tid,
-    ) -> Result<bool, AllocError>
+        number: u64,
+    ) -> Result<Option<Came>, AllocError>
         requires { NoneOut hub.old }
-        ensures told { Knows hub.old.course self.old → IfOk result (λ came. ToldSo (tale_of self.old) hub.old.course (Item.Turn thread) came hub.new.course out.old.items out.new.items) }
-        ensures follows { IfOk result (λ came. IsFollowed hub.old (Item.Turn thread) came hub.new) }
+        ensures came { Knows hub.old.course self.old → IfOk result (λ came. IfSome came (IsOutcome hub.old.course thread.0 hub.new.course number)) }
+        ensures follows { IfOk result (λ came. IsFollowed hub.old (Item.Turn thread) (is_some came) hub.new) }
         ensures none_out { NoneOut hub.new }
-        ensures tale { tale_of self.new ≡ tale_of self.old }
-        ensures knows { IfOk result (λ came. IsTrue came → Knows hub.old.course self.old → Knows hub.new.course self.new) }
+        ensures places { places_of self.new ≡ places_of self.old }
+        ensures knows { IfOk result (λ came. IsTrue (is_some came) → Knows hub.old.course self.old → Knows hub.new.course self.new) }
     {
-        match next_plan(alloc, self.forms, hub, thread)? {
-            Some(plan) => self.tell_planned(alloc, hub, out, thread, &plan),
-            None => Ok(false),
+        // No effect: named here so that the prover knows what holds of it.
+        let _so_far = hub.schedule();
+        let faults = hub.faults();
+        let printed = hub.out().len();
+        if !self.follow(alloc, hub, Item::Turn(thread))? {
+            return Ok(None);
         }
+        let failed = faults < hub.faults();
+        let came = self.came_of(alloc, hub, thread, number, failed, printed)?;
+        Ok(Some(came))
     }
 
-    // Tells of a turn that comes to this.
+    // A turn that was planned so, and has come.
+    fn turned(
+        &self,
+        hub: &Hub,
+        thread: Tid,
+        plan: Planned,
+        came: Came,
+    ) -> Result<Turned, AllocError>
+        ensures thread { IfOk result (λ x. x.thread ≡ who_is (began_in hub.now.course) thread.0) }
+        ensures place { IfOk result (λ x. x.place ≡ option_and_then (spot_place (places_of self.now)) plan.spot) }
+        ensures asked { IfOk result (λ x. (x.ask ≡ plan.ask) × (x.came ≡ came)) }
+    {
+        let thread = who_is(hub, thread.0)?;
+        let Planned { spot, ask, number } = plan;
+        let _number = number;
+        Ok(Turned {
+            thread,
+            place: self.place_of(spot),
+            ask,
+            came,
+        })
+    }
+
+    // Tells of a turn that is planned so.
     fn tell_planned(
         &mut self,
         alloc: Global,
         hub: &mut Hub,
-        out: &mut Vec<u8>,
         thread: Tid,
-        plan: &Planned,
-    ) -> Result<bool, AllocError>
+        plan: Planned,
+    ) -> Result<Option<Happened>, AllocError>
         requires none_out { NoneOut hub.old }
-        requires plan { Plans self.old.forms.now hub.old.course thread.0 plan.now.spot plan.now.asked.items }
-        ensures told { Knows hub.old.course self.old → IfOk result (λ came. ToldSo (tale_of self.old) hub.old.course (Item.Turn thread) came hub.new.course out.old.items out.new.items) }
-        ensures follows { IfOk result (λ came. IsFollowed hub.old (Item.Turn thread) came hub.new) }
+        requires plan { Plans hub.old.course thread.0 plan }
+        ensures told { Knows hub.old.course self.old → IfOk result (λ told. IfSome told (HasHappened (places_of self.old) hub.old.course (Item.Turn thread) hub.new.course)) }
+        ensures follows { IfOk result (λ told. IsFollowed hub.old (Item.Turn thread) (is_some told) hub.new) }
         ensures none_out { NoneOut hub.new }
-        ensures tale { tale_of self.new ≡ tale_of self.old }
-        ensures knows { IfOk result (λ came. IsTrue came → Knows hub.old.course self.old → Knows hub.new.course self.new) }
+        ensures places { places_of self.new ≡ places_of self.old }
+        ensures knows { IfOk result (λ told. IsTrue (is_some told) → Knows hub.old.course self.old → Knows hub.new.course self.new) }
     {
-        // No effect: named here so that the prover knows what holds of it.
-        let _so_far = hub.schedule();
         let before = could_count(hub);
-        let faults = hub.faults();
-        let printed = hub.out().len();
-        if !self.follow(alloc, hub, Item::Turn(thread))? {
-            return Ok(false);
+        match self.turn(alloc, hub, thread, plan.number)? {
+            Some(came) => {
+                let turned = self.turned(hub, thread, plan, came)?;
+                Ok(Some(happened(hub, new_count(hub, before), Deed::Turned(turned))))
+            }
+            None => {
+                drop(plan);
+                Ok(None)
+            }
         }
-        let failed = faults < hub.faults();
-        let words = self.turn_words(alloc, hub, thread, plan, failed, printed)?;
-        push_told(alloc, out, words.as_slice(), new_count(hub, before))?;
-        Ok(true)
     }
 
-    // Tells of a commit.
-    fn tell_commit(
+    // Tells of a turn.
+    #[tactic(auto, using(crate::proofs::NarratorLemmas::unfollowed))]
+    fn tell_turn(
         &mut self,
         alloc: Global,
         hub: &mut Hub,
-        out: &mut Vec<u8>,
+        thread: Tid,
+    ) -> Result<Option<Happened>, AllocError>
+        requires { NoneOut hub.old }
+        ensures told { Knows hub.old.course self.old → IfOk result (λ told. IfSome told (HasHappened (places_of self.old) hub.old.course (Item.Turn thread) hub.new.course)) }
+        ensures follows { IfOk result (λ told. IsFollowed hub.old (Item.Turn thread) (is_some told) hub.new) }
+        ensures none_out { NoneOut hub.new }
+        ensures places { places_of self.new ≡ places_of self.old }
+        ensures knows { IfOk result (λ told. IsTrue (is_some told) → Knows hub.old.course self.old → Knows hub.new.course self.new) }
+    {
+        match next_plan(alloc, hub, thread)? {
+            Some(plan) => self.tell_planned(alloc, hub, thread, plan),
+            None => Ok(None),
+        }
+    }
+
+    // Tells of a commit.
+    fn tell_row(
+        &mut self,
+        alloc: Global,
+        hub: &mut Hub,
         item: Item,
         row: Meet,
-    ) -> Result<bool, AllocError>
+    ) -> Result<Option<Happened>, AllocError>
         requires none_out { NoneOut hub.old }
         requires row { TakesRow item row }
-        ensures told { Knows hub.old.course self.old → IfOk result (λ came. ToldSo (tale_of self.old) hub.old.course item came hub.new.course out.old.items out.new.items) }
-        ensures follows { IfOk result (λ came. IsFollowed hub.old item came hub.new) }
+        ensures told { Knows hub.old.course self.old → IfOk result (λ told. IfSome told (HasHappened (places_of self.old) hub.old.course item hub.new.course)) }
+        ensures follows { IfOk result (λ told. IsFollowed hub.old item (is_some told) hub.new) }
         ensures none_out { NoneOut hub.new }
-        ensures tale { tale_of self.new ≡ tale_of self.old }
-        ensures knows { IfOk result (λ came. IsTrue came → Knows hub.old.course self.old → Knows hub.new.course self.new) }
+        ensures places { places_of self.new ≡ places_of self.old }
+        ensures knows { IfOk result (λ told. IsTrue (is_some told) → Knows hub.old.course self.old → Knows hub.new.course self.new) }
     {
-        let mut said = Vec::new(alloc);
-        let teller = Teller {
-            alloc,
-            forms: self.forms,
-            hub,
-        };
-        teller.push_commit(&mut said, row)?;
-        let before = could_count(hub);
+        let deed = row_deed(alloc, hub, row)?;
+        let could = could_count(hub);
         if !self.follow(alloc, hub, item)? {
-            return Ok(false);
+            drop(deed);
+            return Ok(None);
         }
-        let mut words = self.numbered(alloc, hub)?;
-        words.extend_from_slice(said.as_slice())?;
-        push_told(alloc, out, words.as_slice(), before)?;
-        Ok(true)
+        Ok(Some(happened(hub, could, deed)))
     }
 
     // Tells of a move of the time.
@@ -297,72 +300,19 @@ impl Narrator<'_> {
         &mut self,
         alloc: Global,
         hub: &mut Hub,
-        out: &mut Vec<u8>,
         tick: u64,
-    ) -> Result<bool, AllocError>
+    ) -> Result<Option<Happened>, AllocError>
         requires { NoneOut hub.old }
-        ensures told { Knows hub.old.course self.old → IfOk result (λ came. ToldSo (tale_of self.old) hub.old.course (Item.Clock tick) came hub.new.course out.old.items out.new.items) }
-        ensures follows { IfOk result (λ came. IsFollowed hub.old (Item.Clock tick) came hub.new) }
+        ensures told { Knows hub.old.course self.old → IfOk result (λ told. IfSome told (HasHappened (places_of self.old) hub.old.course (Item.Clock tick) hub.new.course)) }
+        ensures follows { IfOk result (λ told. IsFollowed hub.old (Item.Clock tick) (is_some told) hub.new) }
         ensures none_out { NoneOut hub.new }
-        ensures tale { tale_of self.new ≡ tale_of self.old }
-        ensures knows { IfOk result (λ came. IsTrue came → Knows hub.old.course self.old → Knows hub.new.course self.new) }
+        ensures places { places_of self.new ≡ places_of self.old }
+        ensures knows { IfOk result (λ told. IsTrue (is_some told) → Knows hub.old.course self.old → Knows hub.new.course self.new) }
     {
         let before = could_count(hub);
         if !self.follow(alloc, hub, Item::Clock(tick))? {
-            return Ok(false);
+            return Ok(None);
         }
-        let mut words = self.numbered(alloc, hub)?;
-        push_numbered(alloc, &mut words, b"the time moves to tick ", tick)?;
-        push_told(alloc, out, words.as_slice(), new_count(hub, before))?;
-        Ok(true)
-    }
-}
-
-// With how many bytes the line of a fault of a thread begins, before the fault's name.
-fn start_len(alloc: Global, thread: Tid) -> Result<usize, AllocError>
-    ensures { IfOk result (λ len. len
-        ≡ length (codes "thread " ++ (decimal thread.0 ++ codes " fault "))) }
-{
-    let number = thread.0;
-    let text = format!(in alloc; "thread {number} fault ")?;
-    Ok(text.len())
-}
-
-// Appends that the thread of a turn ended at a fault, by the line that was printed behind so many bytes.
-fn push_fault(
-    alloc: Global,
-    out: &mut Vec<u8>,
-    hub: &Hub,
-    thread: Tid,
-    printed: usize,
-) -> Result<(), AllocError>
-    ensures { (before name : List ℕ) → length before ≡ printed
-        → hub.now.course.output ≡ before ++ output_of thread.0 (fails name)
-        → OnOk result (out.new.items ≡ out.old.items ++ (codes "ends at a fault: " ++ name)) }
-{
-    let start = start_len(alloc, thread)?;
-    let name = fault_name(hub.out().as_bytes(), printed, start);
-    push_two(out, b"ends at a fault: ", name)?;
-    Ok(())
-}
-
-// What is left behind so many bytes.
-fn behind(bytes: &[u8], count: usize) -> &[u8]
-    ensures { result.now ≡ drop count bytes.now }
-{
-    &bytes[count.min(bytes.len())..]
-}
-
-// The name of a fault in what was printed: behind so many bytes, and the start of its line, up to the line feed at the end.
-#[tactic(auto, using(crate::proofs::NameLemmas::name_is))]
-fn fault_name(printed: &[u8], from: usize, start: usize) -> &[u8]
-    ensures { (before text name : List ℕ) → length before ≡ from → length text ≡ start
-        → printed.now ≡ before ++ (text ++ (name ++ 10 ∷ [])) → result.now ≡ name }
-{
-    let line = behind(behind(printed, from), start);
-    if line.len() == 0 {
-        line
-    } else {
-        &line[..line.len() - 1]
+        Ok(Some(happened(hub, new_count(hub, before), Deed::Moved(tick))))
     }
 }

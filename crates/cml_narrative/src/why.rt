@@ -1,31 +1,66 @@
-//! Why an item can't happen, in words.
+//! Why an item can't happen.
 
-ghost use Rattle.std.specs.{Prelude.{◌≡◌, ◌++◌, None, IfOk, OnOk, drop, option_map}, Option.{option_or}, String.{string_bytes}, Option.{option_copied}};
-ghost use Rattle.cml_scan.specs.{Numbers.{numbers_of}, Scan.{has_row, scan}};
+ghost use Rattle.std.specs.Prelude.{◌≡◌, None, IfOk, drop};
+ghost use Rattle.cml_scan.specs.Scan.{has_row, scan};
 ghost use Rattle.cml_hub.specs.Runs.{next_alarm};
+ghost use Rattle.cml_narrative.specs.Turns.{waits_on};
 ghost use Rattle.cml_narrative.specs.Whys as spec;
 
 use crate::commit::leaves_of;
-use crate::teller::Teller;
 use cml_book::Book;
 use cml_hub::{Hub, Item};
 use cml_index::OfferIndex;
-use cml_phrase::push_numbered;
 use cml_scan::{Light, Meet, Place, Table, leaf_bases};
-use cml_text::Sexpr;
 use cml_value::{Base, BaseKind, Tid};
 use std::alloc::{AllocError, Global};
 
+/// What a thread does that an item can't have take part.
+#[derive(Clone, Copy, PartialEq, Eq)]
+pub enum ThreadState {
+    Runs,
+    Waits,
+    /// It has ended.
+    Ended,
+    /// There is no such thread.
+    Missing,
+}
+
+/// Why an item can't happen next.
+#[derive(Drop)]
+pub enum Why {
+    /// The thread of a turn does not run.
+    NoTurn(Tid, ThreadState),
+    /// A party of a row does not wait.
+    NoParty(Tid, ThreadState),
+    /// The thread waits for no event of this number.
+    NoLeaf(Tid, u32),
+    /// The event takes another thread.
+    NotAlone(Base),
+    /// The event can't happen now.
+    NotNow(Base),
+    /// This thread comes first in the pair.
+    ComesFirst(Tid),
+    /// Both parties are this thread.
+    MeetsItself(Tid),
+    /// The first of these events does not meet the second.
+    NoMatch(Base, Base),
+    /// The row is no swap, and can happen as a commit.
+    NoSwap,
+    /// The thread runs, so the time stands still.
+    Runs(Tid),
+    /// Something else can happen, so the time stands still.
+    Busy,
+    /// This is the next tick for which a thread waits, if one does.
+    NextTick(Option<u64>),
+}
+
 // Whether the event takes another thread.
-fn takes_two(base: Option<&Base>) -> bool
-    ensures { result ≡ spec.takes_two (option_copied base.entry) }
+fn takes_two(base: &Base) -> bool
+    ensures { result ≡ spec.takes_two base.now }
 {
-    match base {
-        Some(base) => match base.kind() {
-            BaseKind::Send(_, _) | BaseKind::Recv(_) | BaseKind::Swap(_, _) => true,
-            _ => false,
-        },
-        None => false,
+    match base.kind() {
+        BaseKind::Send(_, _) | BaseKind::Recv(_) | BaseKind::Swap(_, _) => true,
+        _ => false,
     }
 }
 
@@ -42,368 +77,209 @@ pub fn first_running(book: &Book<OfferIndex>, from: u32) -> Option<u32>
     None
 }
 
-// The next tick for which a thread waits.
-fn next_tick(book: &Book<OfferIndex>) -> Option<u64>
+/// The next tick for which a thread waits.
+pub fn next_tick(book: &Book<OfferIndex>) -> Option<u64>
     ensures { result ≡ next_alarm book.now }
 {
     book.next_alarm()
 }
 
-impl Teller<'_> {
-    // Appends a row after its keyword, as a schedule has it.
-    fn push_row(&self, out: &mut Vec<u8>, word: &str, row: &Meet) -> Result<(), AllocError>
-        ensures { OnOk result (out.new.items ≡ out.old.items ++ (word.now ++ numbers_of row.now)) }
-    {
-        let mut text = String::from_str(self.alloc, word)?;
-        row.push_numbers(&mut text)?;
-        out.extend_from_slice(text.as_bytes())
+// What a thread does that neither runs nor waits.
+fn gone_state(book: &Book<OfferIndex>, thread: Tid) -> ThreadState
+    ensures { result ≡ spec.gone_state book.now thread }
+{
+    if book.is_lit(Light::Joined(thread)) {
+        ThreadState::Ended
+    } else {
+        ThreadState::Missing
     }
+}
 
-    // Appends an item, as a schedule has it.
-    fn push_item(&self, out: &mut Vec<u8>, item: &Item) -> Result<(), AllocError>
-        ensures { OnOk result (out.new.items ≡ out.old.items ++ spec.item_words item.now) }
-    {
-        match item {
-            Item::Turn(thread) => push_numbered(self.alloc, out, b"turn ", u64::from(thread.0)),
-            Item::Meet(row) => self.push_row(out, "commit", row),
-            Item::Exchange(row) => self.push_row(out, "swap", row),
-            Item::Clock(tick) => push_numbered(self.alloc, out, b"clock ", *tick),
-        }
+// Why a thread has no turn.
+fn turn_why(book: &Book<OfferIndex>, thread: Tid) -> Why
+    ensures { result ≡ spec.turn_why book.now thread (waits_on book.now thread.0) }
+{
+    match book.waiting(thread) {
+        Some(_) => Why::NoTurn(thread, ThreadState::Waits),
+        None => Why::NoTurn(thread, gone_state(book, thread)),
     }
+}
 
-    // Appends a thread by its number, and what is so of it.
-    fn push_thread_so(&self, out: &mut Vec<u8>, thread: Tid, so: &[u8]) -> Result<(), AllocError>
-        ensures { OnOk result (out.new.items ≡ out.old.items
-            ++ (spec.thread_number thread.0 ++ so.now)) }
-    {
-        push_numbered(self.alloc, out, b"thread ", u64::from(thread.0))?;
-        out.extend_from_slice(so)
+// What a thread that does not run waits for at a leaf, or why it takes no part.
+fn waiting_at(
+    alloc: Global,
+    book: &Book<OfferIndex>,
+    place: Place,
+) -> Result<Result<Base, Why>, AllocError>
+    ensures { IfOk result (λ found. found ≡ spec.waiting_at book.now place.tid place.leaf (waits_on book.now place.tid.0)) }
+{
+    let thread = place.tid;
+    let Some(group) = book.waiting(thread) else {
+        return Ok(Err(Why::NoParty(thread, gone_state(book, thread))));
+    };
+    let bases = leaf_bases(alloc, group)?;
+    match bases.get(place.leaf as usize) {
+        Some(base) => Ok(Ok(base.copy()?)),
+        None => Ok(Err(Why::NoLeaf(thread, place.leaf))),
     }
+}
 
-    // Appends a thread by its number, words, and what stands behind them.
-    fn push_thread_and(
-        &self,
-        out: &mut Vec<u8>,
-        thread: Tid,
-        words: &[u8],
-        behind: &[u8],
-    ) -> Result<(), AllocError>
-        ensures { OnOk result (out.new.items ≡ out.old.items
-            ++ (spec.thread_number thread.0 ++ (words.now ++ behind.now))) }
-    {
-        self.push_thread_so(out, thread, words)?;
-        out.extend_from_slice(behind)
+// What a thread waits for at a leaf, or why it takes no part, whatever else happens.
+fn party_at(
+    alloc: Global,
+    book: &Book<OfferIndex>,
+    place: Place,
+) -> Result<Result<Base, Why>, AllocError>
+    ensures { IfOk result (λ found. found ≡ spec.party_at book.now place.tid place.leaf) }
+{
+    if book.is_running(place.tid) {
+        Ok(Err(Why::NoParty(place.tid, ThreadState::Runs)))
+    } else {
+        waiting_at(alloc, book, place)
     }
+}
 
-    // Appends what is so of a thread that neither runs nor waits.
-    fn push_gone(&self, out: &mut Vec<u8>, thread: Tid, so: &[u8]) -> Result<(), AllocError>
-        ensures { let w = self.now.hub.now.course.world in
-            OnOk result (out.new.items ≡ out.old.items ++ spec.gone_why w thread.0 so.now) }
-    {
-        if self.hub.book().is_lit(Light::Joined(thread)) {
-            self.push_thread_and(out, thread, b" has ended, so ", so)
-        } else {
-            push_numbered(self.alloc, out, b"there is no thread ", u64::from(thread.0))
-        }
+// Why one leaf is not taken alone.
+fn single_why(base: Base) -> Why
+    ensures { result ≡ spec.single_why base }
+{
+    if takes_two(&base) {
+        Why::NotAlone(base)
+    } else {
+        Why::NotNow(base)
     }
+}
 
-    // Appends why a thread has no turn.
-    fn push_turn_why(&self, out: &mut Vec<u8>, thread: Tid) -> Result<(), AllocError>
-        ensures { let w = self.now.hub.now.course.world in
-            OnOk result (out.new.items ≡ out.old.items ++ spec.turn_why_by w thread.0 (spec.waits_on w thread.0)) }
-    {
-        match self.hub.book().waiting(thread) {
-            Some(_) => self.push_thread_so(out, thread, b" waits, so it has no turn"),
-            None => self.push_gone(out, thread, b"it has no turn"),
-        }
+// Why the row of one leaf can't be taken.
+fn single_row_why(alloc: Global, book: &Book<OfferIndex>, place: Place) -> Result<Why, AllocError>
+    ensures { IfOk result (λ why. why ≡ spec.row_reason book.now (Meet.Single place.tid place.leaf)) }
+{
+    match party_at(alloc, book, place)? {
+        Ok(base) => Ok(single_why(base)),
+        Err(why) => Ok(why),
     }
+}
 
-    // Why a leaf of a thread can't be taken that waits for so many events.
-    fn leaf_why(&self, thread: Tid, leaf: u32, count: usize) -> Result<Option<Vec<u8>>, AllocError>
-        ensures { IfOk result (λ why. option_map (λ words. words.items) why ≡ spec.leaf_why thread.0 leaf count) }
-    {
-        if (leaf as usize) < count {
-            return Ok(None);
-        }
-        let mut out = Vec::new(self.alloc);
-        push_numbered(self.alloc, &mut out, b"thread ", u64::from(thread.0))?;
-        push_numbered(
-            self.alloc,
-            &mut out,
-            b" waits for no event of number ",
-            u64::from(leaf),
-        )?;
-        Ok(Some(out))
+// Why two leaves of threads that wait do not meet, where these are their events.
+fn pair_why(book: &Book<OfferIndex>, head: Place, other: Place, ours: Base, theirs: Base) -> Why
+    ensures { result ≡ spec.pair_why book.now head.tid head.leaf other.tid other.leaf ours theirs }
+{
+    let turned = Meet::Pair {
+        head: other.tid,
+        head_leaf: other.leaf,
+        other: head.tid,
+        other_leaf: head.leaf,
+    };
+    if book.table().has(&turned) {
+        drop(ours);
+        drop(theirs);
+        Why::ComesFirst(other.tid)
+    } else if head.tid.0 == other.tid.0 {
+        drop(ours);
+        drop(theirs);
+        Why::MeetsItself(head.tid)
+    } else {
+        Why::NoMatch(ours, theirs)
     }
+}
 
-    // Why a thread that does not run is no party at a leaf, if that is so.
-    fn waiting_why(&self, place: Place) -> Result<Option<Vec<u8>>, AllocError>
-        ensures { let w = self.now.hub.now.course.world in
-            IfOk result (λ why. option_map (λ words. words.items) why
-            ≡ spec.waiting_why w place.tid.0 place.leaf (spec.waits_on w place.tid.0)) }
-    {
-        match self.hub.book().waiting(place.tid) {
-            Some(group) => {
-                let count = leaf_bases(self.alloc, group)?.len();
-                self.leaf_why(place.tid, place.leaf, count)
-            }
-            None => {
-                let mut out = Vec::new(self.alloc);
-                self.push_gone(&mut out, place.tid, b"none of its events can be taken")?;
-                Ok(Some(out))
-            }
-        }
-    }
-
-    // Why a thread is no party at a leaf, if that is so whatever else happens.
-    fn party_reason(&self, place: Place) -> Result<Option<Vec<u8>>, AllocError>
-        ensures { let w = self.now.hub.now.course.world in
-            IfOk result (λ why. option_map (λ words. words.items) why ≡ spec.party_reason w place.tid.0 place.leaf) }
-    {
-        if !self.hub.book().is_running(place.tid) {
-            return self.waiting_why(place);
-        }
-        let mut out = Vec::new(self.alloc);
-        self.push_thread_so(
-            &mut out,
-            place.tid,
-            b" runs, so none of its events can be taken",
-        )?;
-        Ok(Some(out))
-    }
-
-    // The event of a leaf of a thread, if there is one.
-    fn base_of_leaf(&self, place: Place) -> Result<Option<Base>, AllocError>
-        ensures { let w = self.now.hub.now.course.world in
-            IfOk result (λ base. base ≡ spec.base_of_leaf w place.tid.0 place.leaf) }
-    {
-        let Some(group) = self.hub.book().waiting(place.tid) else {
-            return Ok(None);
-        };
-        let bases = leaf_bases(self.alloc, group)?;
-        match bases.get(place.leaf as usize) {
-            Some(base) => {
-                let own = base.copy()?;
-                Ok(Some(own))
-            }
-            None => Ok(None),
-        }
-    }
-
-    // Appends an event, if it is there.
-    fn push_base(&self, out: &mut Vec<u8>, base: Option<&Base>) -> Result<(), AllocError>
-        ensures { OnOk result (out.new.items ≡ out.old.items
-            ++ spec.event_at self.now.forms.now (option_copied base.entry)) }
-    {
-        match base {
-            Some(base) => self.push_bare_event(out, base),
-            None => out.extend_from_slice(b"nothing"),
-        }
-    }
-
-    // Appends an event, and what is so of it.
-    fn push_base_so(
-        &self,
-        out: &mut Vec<u8>,
-        base: Option<&Base>,
-        so: &[u8],
-    ) -> Result<(), AllocError>
-        ensures { OnOk result (out.new.items ≡ out.old.items
-            ++ (spec.event_at self.now.forms.now (option_copied base.entry) ++ so.now)) }
-    {
-        self.push_base(out, base)?;
-        out.extend_from_slice(so)
-    }
-
-    // Appends why one leaf is not taken alone.
-    fn push_alone_why(&self, out: &mut Vec<u8>, base: Option<&Base>) -> Result<(), AllocError>
-        ensures { OnOk result (out.new.items ≡ out.old.items
-            ++ spec.single_why self.now.forms.now (option_copied base.entry)) }
-    {
-        if takes_two(base) {
-            self.push_base_so(out, base, b" can't happen alone")
-        } else {
-            self.push_base_so(out, base, b" can't happen now")
-        }
-    }
-
-    // Appends why the row of one leaf can't be taken.
-    fn push_single_why(&self, out: &mut Vec<u8>, place: Place) -> Result<(), AllocError>
-        ensures { let w = self.now.hub.now.course.world in
-            OnOk result (out.new.items ≡ out.old.items ++ spec.row_reason self.now.forms.now w (Meet.Single place.tid place.leaf)) }
-    {
-        match self.party_reason(place)? {
-            Some(why) => out.extend_from_slice(why.as_slice()),
-            None => {
-                let base = self.base_of_leaf(place)?;
-                self.push_alone_why(out, base.as_ref())
-            }
-        }
-    }
-
-    // Why the row of two leaves can't be taken by what is so of one of the two.
-    fn parties_why(&self, head: Place, other: Place) -> Result<Option<Vec<u8>>, AllocError>
-        ensures { let w = self.now.hub.now.course.world in
-            IfOk result (λ why. option_map (λ words. words.items) why
-            ≡ option_or (spec.party_reason w head.tid.0 head.leaf) (spec.party_reason w other.tid.0 other.leaf)) }
-    {
-        match self.party_reason(head)? {
-            Some(why) => Ok(Some(why)),
-            None => self.party_reason(other),
-        }
-    }
-
-    // Appends the event of a leaf of a thread.
-    fn push_leaf(&self, out: &mut Vec<u8>, place: Place) -> Result<(), AllocError>
-        ensures { let w = self.now.hub.now.course.world in
-            OnOk result (out.new.items ≡ out.old.items ++ spec.event_at self.now.forms.now (spec.base_of_leaf w place.tid.0 place.leaf)) }
-    {
-        match self.hub.book().waiting(place.tid) {
-            Some(group) => {
-                let bases = leaf_bases(self.alloc, group)?;
-                self.push_base(out, bases.get(place.leaf as usize))
-            }
-            None => self.push_base(out, None),
-        }
-    }
-
-    // Appends why two leaves of threads that wait do not meet.
-    fn push_no_pair(&self, out: &mut Vec<u8>, head: Place, other: Place) -> Result<(), AllocError>
-        ensures { let w = self.now.hub.now.course.world in
-            OnOk result (out.new.items ≡ out.old.items ++ spec.pair_why self.now.forms.now w head.tid head.leaf other.tid other.leaf) }
-    {
-        let turned = Meet::Pair {
-            head: other.tid,
-            head_leaf: other.leaf,
-            other: head.tid,
-            other_leaf: head.leaf,
-        };
-        if self.hub.book().table().has(&turned) {
-            self.push_thread_so(out, other.tid, b" comes first in this pair")
-        } else if head.tid.0 == other.tid.0 {
-            self.push_thread_so(out, head.tid, b" can't meet itself")
-        } else {
-            self.push_leaf(out, head)?;
-            out.extend_from_slice(b" does not meet ")?;
-            self.push_leaf(out, other)
-        }
-    }
-
-    // Appends why the row of two leaves can't be taken.
-    fn push_pair_why(&self, out: &mut Vec<u8>, head: Place, other: Place) -> Result<(), AllocError>
-        ensures { let w = self.now.hub.now.course.world in
-            OnOk result (out.new.items ≡ out.old.items ++ spec.row_reason self.now.forms.now w (Meet.Pair head.tid head.leaf other.tid other.leaf)) }
-    {
-        match self.parties_why(head, other)? {
-            Some(why) => out.extend_from_slice(why.as_slice()),
-            None => self.push_no_pair(out, head, other),
-        }
-    }
-
-    // Appends why a row can't be taken.
-    fn push_row_why(&self, out: &mut Vec<u8>, row: &Meet) -> Result<(), AllocError>
-        ensures { let w = self.now.hub.now.course.world in
-            OnOk result (out.new.items ≡ out.old.items ++ spec.row_reason self.now.forms.now w row.now) }
-    {
-        let (head, other) = leaves_of(*row);
-        match other {
-            None => self.push_single_why(out, head),
-            Some(other) => self.push_pair_why(out, head, other),
-        }
-    }
-
-    // Whether the row can be taken.
-    fn can_happen(&self, row: &Meet) -> bool
-        ensures { result ≡ has_row (scan self.now.hub.now.course.world) row.now }
-    {
-        self.hub.book().table().has(row)
-    }
-
-    // Appends why a row is not taken as an exchange.
-    fn push_swap_why(&self, out: &mut Vec<u8>, row: &Meet) -> Result<(), AllocError>
-        ensures { let w = self.now.hub.now.course.world in
-            OnOk result (out.new.items ≡ out.old.items ++ spec.swap_why self.now.forms.now w row.now) }
-    {
-        if self.can_happen(row) {
-            out.extend_from_slice(b"it is no swap, and can happen as a commit")
-        } else {
-            self.push_row_why(out, row)
-        }
-    }
-
-    // Appends for which tick a thread waits next, if one does.
-    fn push_next_tick(&self, out: &mut Vec<u8>, next: Option<u64>) -> Result<(), AllocError>
-        ensures { OnOk result (out.new.items ≡ out.old.items ++ spec.alarm_why next) }
-    {
-        match next {
-            Some(next) => {
-                push_numbered(
-                    self.alloc,
-                    out,
-                    b"the next tick for which a thread waits is ",
-                    next,
-                )
-            }
-            None => out.extend_from_slice(b"no thread waits for a tick to come"),
-        }
-    }
-
-    // Appends why the time does not move, where no thread runs.
-    fn push_idle_why(&self, out: &mut Vec<u8>, book: &Book<OfferIndex>) -> Result<(), AllocError>
-        ensures { OnOk result (out.new.items ≡ out.old.items ++ spec.still_why book.now None) }
-    {
-        if book.table().head_count() == 0 {
-            self.push_next_tick(out, next_tick(book))
-        } else {
-            out.extend_from_slice(b"something else can happen, so the time stands still")
-        }
-    }
-
-    // Appends why the time does not move to a tick.
-    fn push_still_why(&self, out: &mut Vec<u8>) -> Result<(), AllocError>
-        ensures { let w = self.now.hub.now.course.world in
-            OnOk result (out.new.items ≡ out.old.items ++ spec.still_why w (spec.first_running 0 w.threads)) }
-    {
-        let book = self.hub.book();
-        match first_running(book, 0) {
-            Some(thread) => {
-                self.push_thread_so(out, Tid(thread), b" runs, so the time stands still")
-            }
-            None => self.push_idle_why(out, book),
-        }
-    }
-
-    // Appends why an item can't happen.
-    fn push_reason(&self, out: &mut Vec<u8>, item: &Item) -> Result<(), AllocError>
-        ensures { let w = self.now.hub.now.course.world in
-            OnOk result (out.new.items ≡ out.old.items ++ spec.item_why self.now.forms.now w item.now) }
-    {
-        match item {
-            Item::Turn(thread) => self.push_turn_why(out, *thread),
-            Item::Meet(row) => self.push_row_why(out, row),
-            Item::Exchange(row) => self.push_swap_why(out, row),
-            Item::Clock(_) => self.push_still_why(out),
+// Why the row of two leaves can't be taken, where this is the event of the first.
+fn second_row_why(
+    alloc: Global,
+    book: &Book<OfferIndex>,
+    head: Place,
+    other: Place,
+    ours: Base,
+) -> Result<Why, AllocError>
+    ensures { let theirs = spec.party_at book.now other.tid other.leaf in
+        IfOk result (λ why. why ≡ spec.pair_row_why (Ok ours) theirs (spec.pair_why book.now head.tid head.leaf other.tid other.leaf)) }
+{
+    match party_at(alloc, book, other)? {
+        Ok(theirs) => Ok(pair_why(book, head, other, ours, theirs)),
+        Err(why) => {
+            drop(ours);
+            Ok(why)
         }
     }
 }
 
-/// Appends an item, and why it can't happen next in this hub, which it can't: `commit 2 0: thread 2 runs, so none of its events can be
-/// taken`.
+// Why the row of two leaves can't be taken.
+fn pair_row_why(
+    alloc: Global,
+    book: &Book<OfferIndex>,
+    head: Place,
+    other: Place,
+) -> Result<Why, AllocError>
+    ensures { IfOk result (λ why. why ≡ spec.row_reason book.now (Meet.Pair head.tid head.leaf other.tid other.leaf)) }
+{
+    match party_at(alloc, book, head)? {
+        Ok(ours) => second_row_why(alloc, book, head, other, ours),
+        Err(why) => Ok(why),
+    }
+}
+
+// Why a row can't be taken.
+fn row_why(alloc: Global, book: &Book<OfferIndex>, row: &Meet) -> Result<Why, AllocError>
+    ensures { IfOk result (λ why. why ≡ spec.row_reason book.now row.now) }
+{
+    let (head, other) = leaves_of(*row);
+    match other {
+        None => single_row_why(alloc, book, head),
+        Some(other) => pair_row_why(alloc, book, head, other),
+    }
+}
+
+// Whether the row can be taken.
+fn can_happen(book: &Book<OfferIndex>, row: &Meet) -> bool
+    ensures { result ≡ has_row (scan book.now) row.now }
+{
+    book.table().has(row)
+}
+
+// Why a row is not taken as an exchange.
+fn swap_why(alloc: Global, book: &Book<OfferIndex>, row: &Meet) -> Result<Why, AllocError>
+    ensures { IfOk result (λ why. why ≡ spec.swap_why book.now row.now) }
+{
+    if can_happen(book, row) {
+        Ok(Why::NoSwap)
+    } else {
+        row_why(alloc, book, row)
+    }
+}
+
+// Why the time does not move, where no thread runs.
+fn idle_why(book: &Book<OfferIndex>) -> Why
+    ensures { result ≡ spec.still_why book.now None }
+{
+    if book.table().head_count() == 0 {
+        Why::NextTick(next_tick(book))
+    } else {
+        Why::Busy
+    }
+}
+
+// Why the time does not move to a tick.
+fn clock_why(book: &Book<OfferIndex>) -> Why
+    ensures { result ≡ spec.still_why book.now (spec.first_running 0 book.now.threads) }
+{
+    match first_running(book, 0) {
+        Some(thread) => Why::Runs(Tid(thread)),
+        None => idle_why(book),
+    }
+}
+
+/// Why an item can't happen next in this hub, which it can't.
 ///
 /// # Errors
 /// Out of memory.
-pub fn push_why(
-    alloc: Global,
-    out: &mut Vec<u8>,
-    forms: &[Sexpr],
-    hub: &Hub,
-    item: &Item,
-) -> Result<(), AllocError>
-    ensures { OnOk result (out.new.items ≡ out.old.items
-        ++ spec.why_words forms.now hub.now.course.world item.now) }
+pub fn why_not(alloc: Global, hub: &Hub, item: &Item) -> Result<Why, AllocError>
+    ensures { IfOk result (λ why. why ≡ spec.item_why hub.now.course.world item.now) }
 {
-    let teller = Teller { alloc, forms, hub };
-    teller.push_item(out, item)?;
-    out.extend_from_slice(b": ")?;
-    teller.push_reason(out, item)
+    let book = hub.book();
+    match item {
+        Item::Turn(thread) => Ok(turn_why(book, *thread)),
+        Item::Meet(row) => row_why(alloc, book, row),
+        Item::Exchange(row) => swap_why(alloc, book, row),
+        Item::Clock(_) => Ok(clock_why(book)),
+    }
 }

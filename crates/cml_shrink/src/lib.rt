@@ -9,6 +9,6 @@ mod replay;
 mod search;
 mod shrunk;
 
-pub use counts::push_counts;
+pub use counts::{Counts, counts_of, push_counts};
 pub use fault::ShrinkFault;
 pub use shrunk::{Shrunk, shrink};

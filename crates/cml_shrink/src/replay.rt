@@ -6,7 +6,7 @@ ghost use Rattle.cml_shrink.specs.Ends.{EndsWith, IsRefused, HubEndsWith, IsWhy,
 
 use crate::fault::ShrinkFault;
 use cml_check::Prog;
-use cml_explore::{Detail, details_of};
+use cml_fault::{Detail, details_of};
 use cml_hub::{Hub, Item, ReplayFault};
 use std::alloc::{AllocError, Global};
 

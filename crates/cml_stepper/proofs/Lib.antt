@@ -1,5 +1,5 @@
 pub mod RowLemmas
-pub mod WordLemmas
+pub mod OfferLemmas
 pub mod PickLemmas
 pub mod QuestionLemmas
 pub mod ReplyLemmas

@@ -12,7 +12,6 @@ use Rattle.cml_scan.specs.Scan.{scan}
 use Rattle.cml_scan.specs.declared.meet.Meet.{Meet}
 use Rattle.cml_book.specs.Walks.{runs}
 use Rattle.cml_schedule.specs.declared.item.Item.{Item}
-use Rattle.cml_narrative.specs.Whys.{first_running}
 use Rattle.cml_stepper.specs.Picks.{row_numbered, turn_had, last_turned}
 use Rattle.cml_stepper.specs.Questions.{running_from}
 
@@ -54,14 +53,6 @@ ready_more threads i b ready new all h is pushed so_far =
 
 pub no_running : (threads : List PlainThread) (i : ℕ) → length threads ≤ i → running_from i (drop i threads) ≡ []
 no_running threads i past = at_drop_all (running_from i) threads i past
-
-pub first_more : (threads : List PlainThread) (i : ℕ) (b : Bool) → i < length threads → b ≡ option_map_or runs (slice_get threads i) false →
-    first_running i (drop i threads) ≡ cond b (Some i) (first_running (i + 1) (drop (i + 1) threads))
-first_more threads i b h is =
-    at_drop_more (first_running i) threads i running h ∙ ap (λ c. cond c (Some i) (first_running (i + 1) (drop (i + 1) threads))) (runs_is threads i b h is)
-
-pub first_none : (threads : List PlainThread) (i : ℕ) → length threads ≤ i → None ≡ first_running i (drop i threads)
-first_none threads i past = sym (at_drop_all (first_running i) threads i past)
 
 -- ---- the last turn
 

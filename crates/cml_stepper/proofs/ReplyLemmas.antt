@@ -1,16 +1,14 @@
--- What is said to an answer, and that what it names may happen.
+-- What is done at an answer, and that what it names may happen.
 use Rattle.std.proofs.Common.{◌≡◌, ℕ, zero, suc, ◌+◌, ◌-◌, ◌<◌, Bool, true, false, not, ◌&&◌, ◌||◌, nat_eq, cond}
-use Rattle.std.proofs.Common.{List, [], ◌∷◌, ◌++◌, length, take, drop, Option, Some, None, subst, refl, sym, ap}
-use Rattle.std.proofs.Common.{◌∙◌, arith, append_assoc}
-use Rattle.std.specs.Prelude.{codes, option_map, slice_get}
+use Rattle.std.proofs.Common.{List, [], ◌∷◌, length, take, drop, Option, Some, None, subst, refl, sym, ap}
+use Rattle.std.proofs.Common.{◌∙◌, arith}
+use Rattle.std.specs.Prelude.{option_map, slice_get}
 use Rattle.std.specs.Option.{option_or, option_map_or}
 use Rattle.std.specs.List.{list_any}
 use Rattle.std.proofs.lemmas.Bool.Decides.{nat_tests}
-use Rattle.std.proofs.lemmas.List.{append-nil}
 use Rattle.std.proofs.lemmas.Option.{slice_get_within, get_or_from_slice_get, same_Some}
 use Rattle.cml_value.specs.declared.number.Tid.{Tid}
 use Rattle.cml_hub.proofs.RowLemmas.{has_there}
-use Rattle.cml_text.specs.Forms.{PlainSexpr}
 use Rattle.cml_scan.specs.World.{PlainWorld, PlainThread}
 use Rattle.cml_scan.specs.Scan.{scan, has_row}
 use Rattle.cml_scan.specs.declared.meet.Meet.{Meet}
@@ -22,58 +20,55 @@ use Rattle.cml_hub.specs.Courses.{PlainCourse}
 use Rattle.cml_hub.specs.Kept.{Kept}
 use Rattle.cml_hub.specs.Playing.{taking}
 use Rattle.cml_hub.specs.Runs.{is_allowed, any_runs, is_empty, next_alarm, has_number}
-use Rattle.cml_narrative.specs.Tales.{Tale, TellsItem, ToldSo, began_in}
+use Rattle.cml_phrase.specs.declared.place.Place.{Place}
+use Rattle.cml_narrative.specs.Turns.{began_in}
 use Rattle.cml_narrative.specs.Whys.{first_running}
 use Rattle.cml_stepper.specs.declared.line.Typed.{Typed}
 use Rattle.cml_stepper.specs.declared.line.Typed.TheVariants as typed
+use Rattle.cml_stepper.specs.declared.offer.Rows.{Rows}
+use Rattle.cml_stepper.specs.declared.reply.Reply.{Reply}
+use Rattle.cml_stepper.specs.declared.reply.Reply.TheVariants as reply
+use Rattle.cml_stepper.specs.declared.reply.Stay.{Stay}
+use Rattle.cml_stepper.specs.declared.reply.Stay.TheVariants as stay
 use Rattle.cml_stepper.specs.Picks.{row_numbered, next_ready, next_named, only_row, number_past, last_turned, turn_of_number, item_typed}
-use Rattle.cml_stepper.specs.Questions.{ByHand, TellsEnd, listed_rows}
-use Rattle.cml_stepper.specs.Replies.{marked, printed_by, HappensSaid, StaysSaid, Undoes, UndoesLast, TakesNamed, DoneAt, no_row_line, no_next_line, no_item_line, unfit_line, list_words, list_text}
-use Rattle.cml_stepper.proofs.QuestionLemmas.{first_listed}
+use Rattle.cml_stepper.specs.Offers.{AreRows}
+use Rattle.cml_stepper.specs.Replies.{DoneAt, IsGone, IsListed, StaysAs, Lists, TakesNamed, TellsEnd, Undoes, UndoesLast, no_next, unfit}
+use Rattle.cml_stepper.proofs.OfferLemmas.{first_rows}
 
--- ---- what is said
+-- ---- what is told
 
-pub none_next : (rows all : List Meet) (told : List ℕ) → rows ≡ take 1 (drop 0 all) → length rows ≡ 0 → told ≡ no_next_line [] → told ≡ no_next_line all
-none_next rows [] told first none is = is
-none_next rows (row ∷ all) told first none is = absurd (omega (arith, ap length first))
+pub none_next : (rows all : List Meet) → rows ≡ take 1 (drop 0 all) → length rows ≡ 0 → stay.Nothing ≡ no_next all
+none_next rows [] first none = refl
+none_next rows (row ∷ all) first none = absurd (omega (arith, ap length first))
 
-pub many_next : (rows all : List Meet) (told : List ℕ) → rows ≡ take 1 (drop 0 all) → 0 < length rows → told
-    ≡ codes "more than one row can be taken: a number takes one" ++ 10 ∷ [] → told ≡ no_next_line all
-many_next rows [] told first some is = absurd (omega (arith, ap length first))
-many_next rows (row ∷ all) told first some is = is
+pub many_next : (rows all : List Meet) → rows ≡ take 1 (drop 0 all) → 0 < length rows → stay.ManyRows ≡ no_next all
+many_next rows [] first some = absurd (omega (arith, ap length first))
+many_next rows (row ∷ all) first some = refl
 
-pub marked_none : (bytes out : List ℕ) → length bytes ≡ 0 → out ≡ out ++ marked bytes
-marked_none [] out none = sym (append-nil out)
-marked_none (b ∷ bytes) out none = absurd (omega arith)
+pub none_listed : (c : PlainCourse) (n : ℕ) (rows : List Meet) → length rows ≡ 0 → IsListed c n rows (stay.NoRow n)
+none_listed c n [] none = refl
+none_listed c n (row ∷ rows) none = absurd (omega arith)
 
-pub marked_some : (bytes out new : List ℕ) → 0 < length bytes → new ≡ out ++ (codes "| " ++ bytes) → new ≡ out ++ marked bytes
-marked_some [] out new some is = absurd (omega arith)
-marked_some (b ∷ bytes) out new some is = is
+pub some_listed : (c : PlainCourse) (n : ℕ) (rows : List Meet) (x : Rows) → 0 < length rows → AreRows c.world (began_in c) n rows x → IsListed c n rows (stay.Listed x)
+some_listed c n [] x some are = absurd (omega arith)
+some_listed c n (row ∷ rows) x some are = are
 
-list_first : (forms : List PlainSexpr) (c : PlainCourse) (n : ℕ) (rows : List Meet) → list_words forms c n (take 21 rows) ≡ list_words forms c n rows
-list_first forms c n [] = refl
-list_first forms c n (row ∷ rows) = first_listed forms c.world (began_in c) n (row ∷ rows)
+listed_first : (c : PlainCourse) (n : ℕ) (rows : List Meet) (s : Stay) → IsListed c n (take 21 rows) s → IsListed c n rows s
+listed_first c n [] s is = is
+listed_first c n (row ∷ rows) (stay.Listed x) is = first_rows c.world (began_in c) n (row ∷ rows) x is
+listed_first c n (row ∷ rows) _ is = is
 
-list_by : (forms : List PlainSexpr) (c : PlainCourse) (n : ℕ) (rows : List Meet) → 0 < n → rows ≡ take 21 (drop (n - 1) (scan c.world)) → list_words forms c n rows ≡ list_text forms c n
-list_by forms c zero rows some are = absurd (omega arith)
-list_by forms c (suc k) rows some are =
+-- no row has the number 0
+pub lists_zero : (c : PlainCourse) (n : ℕ) → n ≡ 0 → Lists c n (stay.NoRow n)
+lists_zero c zero none = refl
+lists_zero c (suc n) none = absurd (omega arith)
+
+-- the rows from a number on, by the first of them
+pub lists_by : (c : PlainCourse) (n : ℕ) (rows : List Meet) (s : Stay) → 0 < n → rows ≡ take 21 (drop (n - 1) (scan c.world)) → IsListed c n rows s → Lists c n s
+lists_by c zero rows s some are is = absurd (omega arith)
+lists_by c (suc k) rows s some are is =
     let e : suc k - 1 ≡ k = omega arith in
-    ap (list_words forms c (suc k)) (are ∙ ap (λ i. take 21 (drop i (scan c.world))) e) ∙ list_first forms c (suc k) (drop k (scan c.world))
-
-pub no_list : (forms : List PlainSexpr) (c : PlainCourse) (n : ℕ) (rows : List Meet) (told : List ℕ) → 0 < n → rows ≡ take 21 (drop (n - 1) (scan c.world)) → length rows ≡ 0 → told ≡ no_row_line n
-    → told ≡ list_text forms c n
-no_list forms c n [] told some are none is = is ∙ list_by forms c n [] some are
-no_list forms c n (row ∷ rows) told some are none is = absurd (omega arith)
-
-pub some_list : (forms : List PlainSexpr) (c : PlainCourse) (n : ℕ) (rows : List Meet) (told : List ℕ) → 0 < n → rows ≡ take 21 (drop (n - 1) (scan c.world)) → 0 < length rows
-    → told ≡ listed_rows forms c.world (began_in c) n rows → told ≡ list_text forms c n
-some_list forms c n [] told some are many is = absurd (omega arith)
-some_list forms c n (row ∷ rows) told some are many is = is ∙ list_by forms c n (row ∷ rows) some are
-
--- the line of an item, alone
-pub line_alone : (s : Tale) (old new : PlainCourse) (item : Item) (before after : List ℕ) → before ≡ [] → ToldSo s old item true new before after → TellsItem s old item new after
-line_alone s old new item before after none told =
-    subst (TellsItem s old item new) (sym (told.1 ∙ ap (λ xs. xs ++ told.0) none)) told.2
+    listed_first c (suc k) (drop k (scan c.world)) s (subst (λ xs. IsListed c (suc k) xs s) (are ∙ ap (λ i. take 21 (drop i (scan c.world))) e) is)
 
 -- ---- what is named may happen
 
@@ -187,66 +182,31 @@ typed_allowed w items typed.Unknown item e = absurd cc
 
 -- ---- what is done
 
--- all that is said where an item happened
-pub goes_said : (told text asked said : List ℕ) (old new : PlainCourse) (n : ℕ) → n ≡ length old.output → text ≡ told ++ marked (drop n new.output) → said ≡ text ++ asked
-    → said ≡ told ++ (printed_by old new ++ asked)
-goes_said told text asked said old new n len printed joined =
-    joined
-    ∙ (ap (λ o. o ++ asked) (printed ∙ ap (λ k. told ++ marked (drop k new.output)) len) ∙ append_assoc told (printed_by old new) asked)
+pub keeps_so : (IsSo : Stay → Type 0) (h : Kept) (s : Stay) (r : Reply) → r ≡ reply.Stays s (length h.course.items + 1) → IsSo s → StaysAs IsSo h h r
+keeps_so IsSo h s r is so = subst (StaysAs IsSo h h) (sym is) (refl, so, refl)
 
-pub stays_as : (old new : Kept) (words other said : List ℕ) → words ≡ other → StaysSaid old new words said → StaysSaid old new other said
-stays_as old new words other said is stays = subst (λ w. StaysSaid old new w said) is stays
+pub moves_some : (places : List (List Place)) (what : Typed) (old new : Kept) (r : Reply) (item : Item) (o : Option Item) → Some item ≡ o → IsGone places old item new r → TakesNamed places what o old new r
+moves_some places what old new r item o is goes = subst (λ x. TakesNamed places what x old new r) is goes
 
-pub moves_some : (s : ByHand) (what : Typed) (old new : Kept) (said : List ℕ) (item : Item) (o : Option Item) → Some item ≡ o → HappensSaid s old item new said → TakesNamed s what o old new said
-moves_some s what old new said item o is goes = subst (λ x. TakesNamed s what x old new said) is goes
+pub moves_none : (places : List (List Place)) (what : Typed) (h : Kept) (s : Stay) (r : Reply) (o : Option Item) → None ≡ o → s ≡ unfit h.course.world what → r ≡ reply.Stays s (length h.course.items + 1)
+    → TakesNamed places what o h h r
+moves_none places what h s r o is fits stays = subst (λ x. TakesNamed places what x h h r) is (keeps_so (λ s. s ≡ unfit h.course.world what) h s r stays fits)
 
-pub moves_none : (s : ByHand) (what : Typed) (old new : Kept) (words said : List ℕ) (o : Option Item) → None ≡ o → words ≡ unfit_line s.forms old.course.world what → StaysSaid old new words said
-    → TakesNamed s what o old new said
-moves_none s what old new words said o is fits stays = subst (λ x. TakesNamed s what x old new said) is (stays_as old new words (unfit_line s.forms old.course.world what) said fits stays)
+pub undoes_none : (items : List Item) (places : List (List Place)) (h : Kept) (r : Reply) → length items ≡ 0 → r ≡ reply.Stays stay.NoItem (length h.course.items + 1) → UndoesLast items places h h r
+undoes_none [] places h r none stays = keeps_so (λ s. s ≡ stay.NoItem) h stay.NoItem r stays refl
+undoes_none (item ∷ items) places h r none stays = absurd (omega arith)
 
-pub undoes_none : (items : List Item) (s : ByHand) (old new : Kept) (words said : List ℕ) → length items ≡ 0 → words ≡ no_item_line → StaysSaid old new words said → UndoesLast items s old new said
-undoes_none [] s old new words said none is stays = stays_as old new words no_item_line said is stays
-undoes_none (item ∷ items) s old new words said none is stays = absurd (omega arith)
-
-pub undoes_some : (items : List Item) (s : ByHand) (old new : Kept) (said : List ℕ) → 0 < length items → Undoes s old new said → UndoesLast items s old new said
-undoes_some [] s old new said some undoes = absurd (omega arith)
-undoes_some (item ∷ items) s old new said some undoes = undoes
-
--- ---- by what was typed
-
-pub quit_does : (s : ByHand) (what : Typed) (old : Kept) (said : List ℕ) → what ≡ typed.Quit → said ≡ [] → DoneAt s what old true old said
-quit_does s what old said is none = subst (λ x. DoneAt s x old true old said) (sym is) (refl, refl, none)
-
-pub undo_does : (s : ByHand) (what : Typed) (old new : Kept) (ends : Bool) (said : List ℕ) → what ≡ typed.Undo → ends
-    ≡ false → UndoesLast old.course.items s old new said → DoneAt s what old ends new said
-undo_does s what old new ends said is on undoes = subst (λ x. DoneAt s x old ends new said) (sym is) (on, undoes)
-
-pub waits_does : (s : ByHand) (what : Typed) (old new : Kept) (ends : Bool) (told said : List ℕ) → what ≡ typed.Waits
-    → ends ≡ false → TellsEnd s old told → StaysSaid old new told said → DoneAt s what old ends new said
-waits_does s what old new ends told said is on ended stays = subst (λ x. DoneAt s x old ends new said) (sym is) (on, (told, ended, stays))
-
-pub list_does : (s : ByHand) (what : Typed) (n : ℕ) (old new : Kept) (ends : Bool) (words said : List ℕ) → what
-    ≡ typed.List n → ends ≡ false → words ≡ list_text s.forms old.course n → StaysSaid old new words said
-    → DoneAt s what old ends new said
-list_does s what n old new ends words said is on listed stays =
-    subst (λ x. DoneAt s x old ends new said) (sym is) (on, stays_as old new words (list_text s.forms old.course n) said listed stays)
+pub undoes_some : (items : List Item) (places : List (List Place)) (old new : Kept) (r : Reply) → 0 < length items → Undoes places old new r → UndoesLast items places old new r
+undoes_some [] places old new r some undoes = absurd (omega arith)
+undoes_some (item ∷ items) places old new r some undoes = undoes
 
 -- what is done at an answer that may name an item
-abbrev MovesSo : ByHand → Typed → Kept → Kept → List ℕ → Type 0
-MovesSo s what old new said = TakesNamed s what (item_typed old.course.world old.course.items what) old new said
+abbrev MovesSo : List (List Place) → Typed → Kept → Kept → Reply → Type 0
+MovesSo places what old new r = TakesNamed places what (item_typed old.course.world old.course.items what) old new r
 
-pub row_does : (s : ByHand) (what : Typed) (n : ℕ) (old new : Kept) (ends : Bool) (said : List ℕ) → what ≡ typed.Row n → ends ≡ false → MovesSo s what old new said → DoneAt s what old ends new said
-row_does s what n old new ends said is on moves = subst (λ x. DoneAt s x old ends new said) (sym is) (on, subst (λ x. MovesSo s x old new said) is moves)
-
-pub turn_does : (s : ByHand) (what : Typed) (t : Tid) (old new : Kept) (ends : Bool) (said : List ℕ) → what
-    ≡ typed.Turn t → ends ≡ false → MovesSo s what old new said → DoneAt s what old ends new said
-turn_does s what t old new ends said is on moves = subst (λ x. DoneAt s x old ends new said) (sym is) (on, subst (λ x. MovesSo s x old new said) is moves)
-
-pub next_does : (s : ByHand) (what : Typed) (old new : Kept) (ends : Bool) (said : List ℕ) → what ≡ typed.Next → ends ≡ false → MovesSo s what old new said → DoneAt s what old ends new said
-next_does s what old new ends said is on moves = subst (λ x. DoneAt s x old ends new said) (sym is) (on, subst (λ x. MovesSo s x old new said) is moves)
-
-pub unknown_does : (s : ByHand) (what : Typed) (old new : Kept) (ends : Bool) (said : List ℕ) → what ≡ typed.Unknown → ends ≡ false → MovesSo s what old new said → DoneAt s what old ends new said
-unknown_does s what old new ends said is on moves = subst (λ x. DoneAt s x old ends new said) (sym is) (on, subst (λ x. MovesSo s x old new said) is moves)
+pub does_as : (places : List (List Place)) (what same : Typed) (old new : Kept) (r : Reply) → what ≡ same → (MovesSo places same old new r → DoneAt places same old new r) → MovesSo places what old new r
+    → DoneAt places what old new r
+does_as places what same old new r is step moves = subst (λ x. DoneAt places x old new r) (sym is) (step (subst (λ x. MovesSo places x old new r) is moves))
 
 -- ---- what stays
 
@@ -257,20 +217,32 @@ KeepsBoth old new = (new.course.program ≡ old.course.program) × (new.budget �
 pub same_keeps : (old new : Kept) → new ≡ old → KeepsBoth old new
 same_keeps old new same = (ap (λ (k : Kept). k.course.program) same, ap (λ (k : Kept). k.budget) same)
 
-named_keeps : (s : ByHand) (what : Typed) (o : Option Item) (old new : Kept) (said : List ℕ) → TakesNamed s what o old new said → KeepsBoth old new
-named_keeps s what (Some item) old new said happens = (happens.adds.program, happens.budget)
-named_keeps s what None old new said stays = same_keeps old new stays.same
+stays_keeps : (IsSo : Stay → Type 0) (old new : Kept) (r : Reply) → StaysAs IsSo old new r → KeepsBoth old new
+stays_keeps IsSo old new (reply.Stays s n) stays = same_keeps old new stays.0
+stays_keeps IsSo old new _ stays = absurd stays
 
-undo_keeps : (items : List Item) (s : ByHand) (old new : Kept) (said : List ℕ) → UndoesLast items s old new said → KeepsBoth old new
-undo_keeps [] s old new said stays = same_keeps old new stays.same
-undo_keeps (item ∷ items) s old new said undoes = (undoes.back.program, undoes.back.budget)
+gone_keeps : (places : List (List Place)) (old : Kept) (item : Item) (new : Kept) (r : Reply) → IsGone places old item new r → KeepsBoth old new
+gone_keeps places old item new (reply.Gone happened printed question) gone = (gone.adds.program, gone.budget)
+gone_keeps places old item new _ gone = absurd gone
 
-pub done_keeps : (s : ByHand) (what : Typed) (old new : Kept) (ends : Bool) (said : List ℕ) → DoneAt s what old ends new said → KeepsBoth old new
-done_keeps s typed.Quit old new ends said done = same_keeps old new done.1
-done_keeps s typed.Undo old new ends said done = undo_keeps old.course.items s old new said done.1
-done_keeps s typed.Waits old new ends said done = let stays = done.1.2 in same_keeps old new stays.same
-done_keeps s (typed.List n) old new ends said done = let stays = done.1 in same_keeps old new stays.same
-done_keeps s (typed.Row n) old new ends said done = named_keeps s (typed.Row n) (item_typed old.course.world old.course.items (typed.Row n)) old new said done.1
-done_keeps s (typed.Turn t) old new ends said done = named_keeps s (typed.Turn t) (item_typed old.course.world old.course.items (typed.Turn t)) old new said done.1
-done_keeps s typed.Next old new ends said done = named_keeps s typed.Next (item_typed old.course.world old.course.items typed.Next) old new said done.1
-done_keeps s typed.Unknown old new ends said done = named_keeps s typed.Unknown (item_typed old.course.world old.course.items typed.Unknown) old new said done.1
+named_keeps : (places : List (List Place)) (what : Typed) (o : Option Item) (old new : Kept) (r : Reply) → TakesNamed places what o old new r → KeepsBoth old new
+named_keeps places what (Some item) old new r happens = gone_keeps places old item new r happens
+named_keeps places what None old new r stays = stays_keeps (λ s. s ≡ unfit old.course.world what) old new r stays
+
+undone_keeps : (places : List (List Place)) (old new : Kept) (r : Reply) → Undoes places old new r → KeepsBoth old new
+undone_keeps places old new (reply.Undone n question) undoes = (undoes.0.program, undoes.0.budget)
+undone_keeps places old new _ undoes = absurd undoes
+
+undo_keeps : (items : List Item) (places : List (List Place)) (old new : Kept) (r : Reply) → UndoesLast items places old new r → KeepsBoth old new
+undo_keeps [] places old new r stays = stays_keeps (λ s. s ≡ stay.NoItem) old new r stays
+undo_keeps (item ∷ items) places old new r undoes = undone_keeps places old new r undoes
+
+pub done_keeps : (places : List (List Place)) (what : Typed) (old new : Kept) (r : Reply) → DoneAt places what old new r → KeepsBoth old new
+done_keeps places typed.Quit old new r done = same_keeps old new done.1
+done_keeps places typed.Undo old new r done = undo_keeps old.course.items places old new r done
+done_keeps places typed.Waits old new r done = stays_keeps (TellsEnd places old) old new r done
+done_keeps places (typed.List n) old new r done = stays_keeps (Lists old.course n) old new r done
+done_keeps places (typed.Row n) old new r done = named_keeps places (typed.Row n) (item_typed old.course.world old.course.items (typed.Row n)) old new r done
+done_keeps places (typed.Turn t) old new r done = named_keeps places (typed.Turn t) (item_typed old.course.world old.course.items (typed.Turn t)) old new r done
+done_keeps places typed.Next old new r done = named_keeps places typed.Next (item_typed old.course.world old.course.items typed.Next) old new r done
+done_keeps places typed.Unknown old new r done = named_keeps places typed.Unknown (item_typed old.course.world old.course.items typed.Unknown) old new r done

@@ -1,7 +1,7 @@
-pub mod Tellings
 pub mod Typings
 pub mod Picks
+pub mod Offers
 pub mod Questions
 pub mod Replies
-pub mod Hands
+pub mod Steppers
 pub mod Sessions

@@ -1,7 +1,5 @@
--- What is done at an answer, and what is said to it.
-use Rattle.std.specs.Prelude.{◌≡◌, ℕ, zero, suc, ◌-◌, Bool, true, false, List, [], ◌∷◌, ◌++◌, codes, length, take, drop, Option, Some, None}
-use Rattle.std.specs.Fmt.{decimal}
-use Rattle.cml_text.specs.Forms.{PlainSexpr}
+-- What is done at an answer.
+use Rattle.std.specs.Prelude.{◌≡◌, ℕ, zero, suc, ◌+◌, ◌-◌, Bool, true, false, List, [], ◌∷◌, length, take, drop, Option, Some, None}
 use Rattle.cml_scan.specs.World.{PlainWorld}
 use Rattle.cml_scan.specs.Scan.{scan}
 use Rattle.cml_scan.specs.declared.meet.Meet.{Meet}
@@ -11,37 +9,45 @@ use Rattle.cml_schedule.specs.declared.item.Item.TheVariants.{Turn}
 use Rattle.cml_hub.specs.Courses.{PlainCourse, run_of, Adds}
 use Rattle.cml_hub.specs.Kept.{Kept}
 use Rattle.cml_hub.specs.Runs.{stands}
-use Rattle.cml_narrative.specs.Tales.{TellsItem, began_in}
-use Rattle.cml_narrative.specs.Whys.{why_words}
+use Rattle.cml_phrase.specs.declared.place.Place.{Place}
+use Rattle.cml_ending.specs.Ends.{IsEnding}
+use Rattle.cml_narrative.specs.declared.deed.Happened.{Happened}
+use Rattle.cml_narrative.specs.Deeds.{HasHappened}
+use Rattle.cml_narrative.specs.Turns.{began_in}
+use Rattle.cml_narrative.specs.Whys.{item_why}
 use Rattle.cml_stepper.specs.declared.line.Typed.{Typed}
 use Rattle.cml_stepper.specs.declared.line.Typed.TheVariants as typed
-use Rattle.cml_stepper.specs.Tellings.{told_by_hand}
+use Rattle.cml_stepper.specs.declared.question.Question.{Question}
+use Rattle.cml_stepper.specs.declared.reply.Reply.{Reply}
+use Rattle.cml_stepper.specs.declared.reply.Reply.TheVariants as reply
+use Rattle.cml_stepper.specs.declared.reply.Stay.{Stay}
+use Rattle.cml_stepper.specs.declared.reply.Stay.TheVariants as stay
 use Rattle.cml_stepper.specs.Typings.{IsTyped}
 use Rattle.cml_stepper.specs.Picks.{item_typed}
-use Rattle.cml_stepper.specs.Questions.{ByHand, IsQuestion, TellsEnd, listed_rows, prompt_line}
+use Rattle.cml_stepper.specs.Offers.{AreRows}
+use Rattle.cml_stepper.specs.Questions.{IsQuestion}
 
--- what an item added to the output, behind a mark: a print, or the line of a fault
-abbrev pub marked : List ℕ → List ℕ
-marked [] = []
-marked (b ∷ bytes) = codes "| " ++ b ∷ bytes
+-- it is the end
+abbrev pub is_end : Reply → Bool
+is_end reply.Quit = true
+is_end r = false
 
-abbrev pub printed_by : PlainCourse → PlainCourse → List ℕ
-printed_by old new = marked (drop (length old.output) new.output)
-
--- The item happened: what it did was said, then what it added to the output, and then what can happen next.
-pub record HappensSaid (s : ByHand) (old : Kept) (item : Item) (new : Kept) (said : List ℕ) : Type 0 where
+-- An item happened: what it did, what it added to the output, and what can happen next.
+pub record HappensSo (places : List (List Place)) (old : Kept) (item : Item) (new : Kept) (happened : Happened) (printed : List ℕ) (question : Question) : Type 0 where
   pub adds : Adds old.course item new.course
   pub budget : new.budget ≡ old.budget
-  pub told : List ℕ
-  pub tells : TellsItem (told_by_hand s.text s.forms) old.course item new.course told
-  pub asked : List ℕ
-  pub asks : IsQuestion s new asked
-  pub said_is : said ≡ told ++ (printed_by old.course new.course ++ asked)
+  pub did : HasHappened places old.course item new.course happened
+  pub prints : printed ≡ drop (length old.course.output) new.course.output
+  pub asks : IsQuestion places new question
 
--- nothing has changed: this was said, and the same item is asked for
-pub record StaysSaid (old new : Kept) (words said : List ℕ) : Type 0 where
-  pub same : new ≡ old
-  pub said_is : said ≡ words ++ prompt_line old.course
+abbrev pub IsGone : List (List Place) → Kept → Item → Kept → Reply → Type 0
+IsGone places old item new (reply.Gone happened printed question) = HappensSo places old item new happened printed.items question
+IsGone places old item new r = ⊥
+
+-- nothing has changed; of what is told this is so, and the same item comes next
+abbrev pub StaysAs : (Stay → Type 0) → Kept → Kept → Reply → Type 0
+StaysAs IsSo old new (reply.Stays stay number) = (new ≡ old) × IsSo stay × (number ≡ length old.course.items + 1)
+StaysAs IsSo old new r = ⊥
 
 -- the hub stands where the schedule leads without its last item
 pub record LeadsBack (old new : Kept) : Type 0 where
@@ -50,68 +56,57 @@ pub record LeadsBack (old new : Kept) : Type 0 where
   pub items : new.course.items ≡ take (length old.course.items - 1) old.course.items
   pub leads : stands (text_of new.course.program) new.course.items ≡ Some (run_of new.course)
 
--- that the item of this number is undone
-abbrev pub undone_line : ℕ → List ℕ
-undone_line n = codes "item " ++ (decimal n ++ (codes " is undone" ++ 10 ∷ []))
-
--- the last item was undone, and what can happen before it was said
-pub record Undoes (s : ByHand) (old new : Kept) (said : List ℕ) : Type 0 where
-  pub back : LeadsBack old new
-  pub asked : List ℕ
-  pub asks : IsQuestion s new asked
-  pub said_is : said ≡ undone_line (length old.course.items) ++ asked
-
-abbrev pub no_item_line : List ℕ
-no_item_line = codes "there is no item to undo" ++ 10 ∷ []
+-- the last item was undone, and this can happen before it
+abbrev pub Undoes : List (List Place) → Kept → Kept → Reply → Type 0
+Undoes places old new (reply.Undone number question) = LeadsBack old new × (number ≡ length old.course.items) × IsQuestion places new question
+Undoes places old new r = ⊥
 
 -- the same where there are these items; without any there is nothing to undo
-abbrev pub UndoesLast : List Item → ByHand → Kept → Kept → List ℕ → Type 0
-UndoesLast [] s old new said = StaysSaid old new no_item_line said
-UndoesLast (item ∷ items) s old new said = Undoes s old new said
-
--- what can be answered
-abbrev pub help_line : List ℕ
-help_line =
-    codes "a number takes that row, t N gives thread N its turn, an empty line goes on, l N lists rows from number N on, w says who waits, u undoes the last item, q ends" ++ 10 ∷ []
-
-abbrev pub no_row_line : ℕ → List ℕ
-no_row_line n = codes "there is no row " ++ (decimal n ++ 10 ∷ [])
+abbrev pub UndoesLast : List Item → List (List Place) → Kept → Kept → Reply → Type 0
+UndoesLast [] places old new r = StaysAs (λ s. s ≡ stay.NoItem) old new r
+UndoesLast (item ∷ items) places old new r = Undoes places old new r
 
 -- why an empty line means nothing where no thread runs, and these rows can be taken
-abbrev pub no_next_line : List Meet → List ℕ
-no_next_line [] = codes "nothing can happen: u undoes the last item, q ends" ++ 10 ∷ []
-no_next_line (row ∷ rows) = codes "more than one row can be taken: a number takes one" ++ 10 ∷ []
+abbrev pub no_next : List Meet → Stay
+no_next [] = stay.Nothing
+no_next (row ∷ rows) = stay.ManyRows
 
--- the line that an answer gets which names no item
-abbrev pub unfit_line : List PlainSexpr → PlainWorld → Typed → List ℕ
-unfit_line forms w (typed.Row n) = no_row_line n
-unfit_line forms w (typed.Turn t) = why_words forms w (Turn t) ++ 10 ∷ []
-unfit_line forms w typed.Next = no_next_line (scan w)
-unfit_line forms w what = help_line
+-- why an answer names no item
+abbrev pub unfit : PlainWorld → Typed → Stay
+unfit w (typed.Row n) = stay.NoRow n
+unfit w (typed.Turn t) = stay.NoTurn t (item_why w (Turn t))
+unfit w typed.Next = no_next (scan w)
+unfit w what = stay.Unknown
 
--- the rows from this number on
-abbrev pub list_words : List PlainSexpr → PlainCourse → ℕ → List Meet → List ℕ
-list_words forms c n [] = no_row_line n
-list_words forms c n (row ∷ rows) = listed_rows forms c.world (began_in c) n (row ∷ rows)
+-- these rows, of which the first has this number; or that there is no such row
+abbrev pub IsListed : PlainCourse → ℕ → List Meet → Stay → Type 0
+IsListed c n [] s = s ≡ stay.NoRow n
+IsListed c n (row ∷ rows) (stay.Listed listed) = AreRows c.world (began_in c) n (row ∷ rows) listed
+IsListed c n (row ∷ rows) s = ⊥
 
-abbrev pub list_text : List PlainSexpr → PlainCourse → ℕ → List ℕ
-list_text forms c zero = no_row_line 0
-list_text forms c (suc n) = list_words forms c (suc n) (drop n (scan c.world))
+-- the rows of the scan from this number on
+abbrev pub Lists : PlainCourse → ℕ → Stay → Type 0
+Lists c zero s = s ≡ stay.NoRow 0
+Lists c (suc n) s = IsListed c (suc n) (drop n (scan c.world)) s
+
+-- how the run of this hub has ended
+abbrev pub TellsEnd : List (List Place) → Kept → Stay → Type 0
+TellsEnd places h (stay.Waits ending) = IsEnding places h ending
+TellsEnd places h s = ⊥
 
 -- the item that an answer names happened; where it names none, nothing did, and the answer to it says why
-abbrev pub TakesNamed : ByHand → Typed → Option Item → Kept → Kept → List ℕ → Type 0
-TakesNamed s what (Some item) old new said = HappensSaid s old item new said
-TakesNamed s what None old new said = StaysSaid old new (unfit_line s.forms old.course.world what) said
+abbrev pub TakesNamed : List (List Place) → Typed → Option Item → Kept → Kept → Reply → Type 0
+TakesNamed places what (Some item) old new r = IsGone places old item new r
+TakesNamed places what None old new r = StaysAs (λ s. s ≡ unfit old.course.world what) old new r
 
--- what is done at an answer; it ends where it says so
-abbrev pub DoneAt : ByHand → Typed → Kept → Bool → Kept → List ℕ → Type 0
-DoneAt s typed.Quit old ends new said = (ends ≡ true) × (new ≡ old) × (said ≡ [])
-DoneAt s typed.Undo old ends new said = (ends ≡ false) × UndoesLast old.course.items s old new said
-DoneAt s typed.Waits old ends new said =
-    (ends ≡ false) × ((told : List ℕ) × TellsEnd s old told × StaysSaid old new told said)
-DoneAt s (typed.List n) old ends new said = (ends ≡ false) × StaysSaid old new (list_text s.forms old.course n) said
-DoneAt s what old ends new said = (ends ≡ false) × TakesNamed s what (item_typed old.course.world old.course.items what) old new said
+-- what is done at an answer
+abbrev pub DoneAt : List (List Place) → Typed → Kept → Kept → Reply → Type 0
+DoneAt places typed.Quit old new r = (r ≡ reply.Quit) × (new ≡ old)
+DoneAt places typed.Undo old new r = UndoesLast old.course.items places old new r
+DoneAt places typed.Waits old new r = StaysAs (TellsEnd places old) old new r
+DoneAt places (typed.List n) old new r = StaysAs (Lists old.course n) old new r
+DoneAt places what old new r = TakesNamed places what (item_typed old.course.world old.course.items what) old new r
 
 -- the answer to a line
-abbrev pub AnswersLine : ByHand → Kept → List ℕ → Bool → Kept → List ℕ → Type 0
-AnswersLine s old line ends new said = (what : Typed) × IsTyped line what × DoneAt s what old ends new said
+abbrev pub AnswersLine : List (List Place) → Kept → List ℕ → Reply → Kept → Type 0
+AnswersLine places old line r new = (what : Typed) × IsTyped line what × DoneAt places what old new r

@@ -1,195 +1,138 @@
-//! Rows in words.
+//! Rows that can be taken, as values.
 
-ghost use Rattle.std.specs.Prelude.{◌≡◌, ◌++◌, ◌<◌, ◌≤◌, ◌+◌, ◌^◌, Some, OnOk, length, take, drop};
-ghost use Rattle.cml_narrative.specs.{Commits.{named}, Tales.{began_in}, Whys.{base_of_leaf}};
-ghost use Rattle.cml_stepper.specs.Questions as spec;
+ghost use Rattle.std.specs.Prelude.{◌≡◌, IfOk, map, take};
+ghost use Rattle.cml_ending.specs.Takes.{leaf_waited};
+ghost use Rattle.cml_ending.specs.Waits as waits;
+ghost use Rattle.cml_narrative.specs.Turns.{began_in};
+ghost use Rattle.cml_stepper.specs.Offers.{AreRows};
+ghost use Rattle.cml_stepper.specs.Offers as spec;
 
-use crate::words::{push_numbered, push_numbered_line};
-use cml_ending::{Takers, push_awaited, who_is};
+use cml_ending::{AwaitedEvent, Named, Takers, awaited_event, who_is};
 use cml_hub::Hub;
-use cml_phrase::push_thread;
-use cml_scan::{Meet, leaf_bases};
-use cml_text::Sexpr;
-use cml_value::{Base, Group, GroupKind, Tid};
+use cml_narrative::leaves_of;
+use cml_scan::{Meet, Place, leaf_bases};
+use cml_value::Base;
 use std::alloc::{AllocError, Global};
 
 /// How many threads, and how many rows, are listed at once.
 pub(crate) const LISTED: usize = 20;
 
-/// Appends a thread, with the function with which it began.
-pub(crate) fn push_named(
-    alloc: Global,
-    out: &mut Vec<u8>,
-    forms: &[Sexpr],
-    hub: &Hub,
-    thread: u32,
-) -> Result<(), AllocError>
-    ensures { OnOk result (out.new.items ≡ out.old.items ++ named forms.now (began_in hub.now.course) thread) }
-{
-    push_thread(alloc, out, forms, who_is(hub, thread))
+/// A thread, and the event at one of its leaves, with the state of its object. Who took last from an M-variable is not told of it.
+#[derive(Drop)]
+pub struct Offer {
+    pub thread: Named,
+    pub event: Option<AwaitedEvent>,
 }
 
-// Appends an event that can be taken, with the state of its object.
-#[tactic(auto, using(crate::proofs::WordLemmas::told_of_nobody))]
-fn push_event(
-    alloc: Global,
-    out: &mut Vec<u8>,
-    forms: &[Sexpr],
-    hub: &Hub,
-    base: &Base,
-) -> Result<(), AllocError>
-    ensures { OnOk result (out.new.items ≡ out.old.items
-        ++ spec.event_words_in forms.now hub.now.course.world (began_in hub.now.course) (Some base.now)) }
+/// A row: its head, and the other thread, if it is a pair.
+#[derive(Drop)]
+pub struct Row {
+    pub head: Offer,
+    pub other: Option<Offer>,
+}
+
+/// The first 20 of some rows, the number of the first of them, and whether there are more.
+#[derive(Drop)]
+pub struct Rows {
+    pub first: u32,
+    pub rows: Vec<Row>,
+    pub more: bool,
+}
+
+// A base event, with the state of its object.
+fn event_of(alloc: Global, hub: &Hub, base: &Base) -> Result<AwaitedEvent, AllocError>
+    ensures { let c = hub.now.course in
+        IfOk result (λ event. event ≡ waits.awaited_event c.world (began_in c) spec.no_taker base.now) }
 {
-    let alone = Group::new(GroupKind::Leaf(base.copy()?));
     let takers = Takers::new(alloc);
-    push_awaited(alloc, out, forms, hub, &takers, &alone)
+    let event = awaited_event(hub, &takers, base)?;
+    Ok(event)
 }
 
-// Appends the event at a leaf of a thread.
-fn push_event_at(
-    alloc: Global,
-    out: &mut Vec<u8>,
-    forms: &[Sexpr],
-    hub: &Hub,
-    thread: Tid,
-    leaf: u32,
-) -> Result<(), AllocError>
-    ensures { let w = hub.now.course.world in OnOk result (out.new.items ≡ out.old.items
-        ++ spec.event_words_in forms.now w (began_in hub.now.course) (base_of_leaf w thread.0 leaf)) }
+// The event at a leaf of a thread.
+fn event_at(alloc: Global, hub: &Hub, place: Place) -> Result<Option<AwaitedEvent>, AllocError>
+    ensures { let c = hub.now.course in
+        IfOk result (λ event. event ≡ spec.event_in c.world (began_in c) (leaf_waited c.world place.tid.0 place.leaf)) }
 {
-    let Some(group) = hub.book().waiting(thread) else {
-        return out.extend_from_slice(b"nothing");
+    let Some(group) = hub.book().waiting(place.tid) else {
+        return Ok(None);
     };
     let bases = leaf_bases(alloc, group)?;
-    match bases.get(leaf as usize) {
-        Some(base) => push_event(alloc, out, forms, hub, base),
-        None => out.extend_from_slice(b"nothing"),
+    match bases.get(place.leaf as usize) {
+        Some(base) => Ok(Some(event_of(alloc, hub, base)?)),
+        None => Ok(None),
     }
 }
 
-// Appends a thread, and the event at one of its leaves.
-fn push_party(
-    alloc: Global,
-    out: &mut Vec<u8>,
-    forms: &[Sexpr],
-    hub: &Hub,
-    thread: Tid,
-    leaf: u32,
-) -> Result<(), AllocError>
-    ensures { OnOk result (out.new.items ≡ out.old.items
-        ++ spec.party_words forms.now hub.now.course.world (began_in hub.now.course) thread.0 leaf) }
+// A thread, and the event at one of its leaves.
+fn offer_of(alloc: Global, hub: &Hub, place: Place) -> Result<Offer, AllocError>
+    ensures { let c = hub.now.course in
+        IfOk result (λ offer. offer ≡ spec.offered_at c.world (began_in c) place.tid.0 place.leaf) }
 {
-    push_named(alloc, out, forms, hub, thread.0)?;
-    out.extend_from_slice(b": ")?;
-    push_event_at(alloc, out, forms, hub, thread, leaf)
+    let event = event_at(alloc, hub, place)?;
+    let thread = who_is(hub, place.tid.0)?;
+    Ok(Offer { thread, event })
 }
 
-// Appends a row.
-fn push_row(
-    alloc: Global,
-    out: &mut Vec<u8>,
-    forms: &[Sexpr],
-    hub: &Hub,
-    row: &Meet,
-) -> Result<(), AllocError>
-    ensures { OnOk result (out.new.items ≡ out.old.items
-        ++ spec.offered_words forms.now hub.now.course.world (began_in hub.now.course) row.now) }
+// A row as a value.
+fn row_of(alloc: Global, hub: &Hub, meet: Meet) -> Result<Row, AllocError>
+    ensures { let c = hub.now.course in
+        IfOk result (λ row. row ≡ spec.offered_row c.world (began_in c) meet) }
 {
-    match *row {
-        Meet::Single { tid, leaf } => push_party(alloc, out, forms, hub, tid, leaf),
-        Meet::Pair {
-            head,
-            head_leaf,
-            other,
-            other_leaf,
-        } => {
-            push_party(alloc, out, forms, hub, head, head_leaf)?;
-            out.extend_from_slice(b"; ")?;
-            push_party(alloc, out, forms, hub, other, other_leaf)
+    let (first, second) = leaves_of(meet);
+    let head = offer_of(alloc, hub, first)?;
+    match second {
+        Some(place) => {
+            let other = offer_of(alloc, hub, place)?;
+            Ok(Row {
+                head,
+                other: Some(other),
+            })
         }
+        None => Ok(Row { head, other: None }),
     }
 }
 
-// Appends the line of a row, which has this number.
-fn push_row_line(
-    alloc: Global,
-    out: &mut Vec<u8>,
-    forms: &[Sexpr],
-    hub: &Hub,
-    number: u64,
-    row: &Meet,
-) -> Result<(), AllocError>
-    ensures { OnOk result (out.new.items ≡ out.old.items
-        ++ spec.offered_line forms.now hub.now.course.world (began_in hub.now.course) number row.now) }
+// These rows as values.
+fn each_row(alloc: Global, hub: &Hub, meets: &[Meet]) -> Result<Vec<Row>, AllocError>
+    ensures { let c = hub.now.course in
+        IfOk result (λ rows. rows.items ≡ map (spec.offered_row c.world (began_in c)) meets.now) }
 {
-    push_numbered(alloc, out, b"  ", number)?;
-    out.extend_from_slice(b"  ")?;
-    push_row(alloc, out, forms, hub, row)?;
-    out.extend_from_slice(b"\n")
-}
-
-// Appends the lines of these rows, of which the first has this number.
-fn push_row_lines(
-    alloc: Global,
-    out: &mut Vec<u8>,
-    forms: &[Sexpr],
-    hub: &Hub,
-    first: u64,
-    rows: &[Meet],
-) -> Result<(), AllocError>
-    requires { first + length rows.now < 2 ^ 64 }
-    ensures { OnOk result (out.new.items ≡ out.old.items
-        ++ spec.row_lines forms.now hub.now.course.world (began_in hub.now.course) first rows.now) }
-{
-    for k in 0..rows.len() {
-        let row = rows[k];
-        push_row_line(alloc, out, forms, hub, first + k as u64, &row)?;
+    let mut rows = Vec::new(alloc);
+    for meet in meets {
+        rows.push(row_of(alloc, hub, *meet)?)?;
     }
-    Ok(())
+    Ok(rows)
 }
 
 // Those of these rows that are listed.
-fn listed(rows: &[Meet]) -> &[Meet]
-    ensures rows { result.now ≡ take spec.listed_limit rows.now }
-    ensures few { length result.now ≤ spec.listed_limit }
+fn listed(meets: &[Meet]) -> &[Meet]
+    ensures { result.now ≡ take spec.listed_limit meets.now }
 {
-    if rows.len() > LISTED {
-        &rows[..LISTED]
+    if meets.len() > LISTED {
+        &meets[..LISTED]
     } else {
-        rows
+        meets
     }
 }
 
-// Appends that there are more rows than are listed, the first of which has this number, if there are.
-#[tactic(auto, using(crate::proofs::QuestionLemmas::more_there, crate::proofs::QuestionLemmas::more_none))]
-fn push_more(alloc: Global, out: &mut Vec<u8>, number: u64, rows: &[Meet]) -> Result<(), AllocError>
-    ensures { OnOk result (out.new.items ≡ out.old.items
-        ++ spec.more_rows number (drop spec.listed_limit rows.now)) }
-{
-    if rows.len() <= LISTED {
-        return Ok(());
-    }
-    push_numbered_line(alloc, out, b"  and more rows: l ", number, b" lists them")?;
-    Ok(())
-}
-
-/// Appends those of these rows that are listed, of which the first has this number.
+/// Those of these rows that are listed, of which the first has this number.
 ///
 /// # Errors
 /// Out of memory.
-pub(crate) fn push_rows(
+pub(crate) fn rows_of(
     alloc: Global,
-    out: &mut Vec<u8>,
-    forms: &[Sexpr],
     hub: &Hub,
     first: u32,
-    rows: &[Meet],
-) -> Result<(), AllocError>
-    ensures { OnOk result (out.new.items ≡ out.old.items
-        ++ spec.listed_rows forms.now hub.now.course.world (began_in hub.now.course) first rows.now) }
+    meets: &[Meet],
+) -> Result<Rows, AllocError>
+    ensures { let c = hub.now.course in
+        IfOk result (AreRows c.world (began_in c) first meets.now) }
 {
-    let first = u64::from(first);
-    push_row_lines(alloc, out, forms, hub, first, listed(rows))?;
-    push_more(alloc, out, first + LISTED as u64, rows)
+    let rows = each_row(alloc, hub, listed(meets))?;
+    Ok(Rows {
+        first,
+        rows,
+        more: meets.len() > LISTED,
+    })
 }

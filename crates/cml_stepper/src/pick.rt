@@ -1,7 +1,6 @@
 //! Which item an answer names.
 
 ghost use Rattle.std.specs.Prelude.{◌≡◌, [], IfOk};
-ghost use Rattle.cml_hub.specs.Runs.{next_alarm};
 ghost use Rattle.cml_hub.specs.Playing as playing;
 ghost use Rattle.cml_scan.specs.Scan.{scan};
 ghost use Rattle.cml_stepper.specs.Picks as spec;
@@ -12,6 +11,7 @@ use crate::rows::rows_in;
 use cml_book::Book;
 use cml_hub::{Hub, Item};
 use cml_index::OfferIndex;
+use cml_narrative::next_tick;
 use cml_scan::Meet;
 use cml_value::Tid;
 use std::alloc::{AllocError, Global};
@@ -40,13 +40,6 @@ fn taking(book: &Book<OfferIndex>, row: Meet) -> Item
     } else {
         Item::Meet(row)
     }
-}
-
-/// The next tick for which a thread waits.
-pub(crate) fn next_tick(book: &Book<OfferIndex>) -> Option<u64>
-    ensures { result ≡ next_alarm book.now }
-{
-    book.next_alarm()
 }
 
 // The only row, or, where there is none, the next alarm.

@@ -1,64 +1,67 @@
 //! The question before each answer.
 
-ghost use Rattle.std.specs.{Prelude.{◌≡◌, ◌++◌, [], IfOk, OnOk, take, option_and_then}, List.{flat_map}};
-ghost use Rattle.cml_ending.specs.{Ends.{EndsSo}, Lines.{spot_place}, Standings.{spot_at, AreSpots}};
-ghost use Rattle.cml_hub.specs.Runs.{terminal, next_alarm};
-ghost use Rattle.cml_narrative.specs.Tales.{began_in};
-ghost use Rattle.cml_phrase.specs.Spots.{all_places};
+ghost use Rattle.std.specs.Prelude.{◌≡◌, ◌+◌, IfOk, length, map, take};
+ghost use Rattle.cml_ending.specs.Ends.{IsEnding};
+ghost use Rattle.cml_hub.specs.Runs.{terminal};
+ghost use Rattle.cml_narrative.specs.Turns.{began_in};
 ghost use Rattle.cml_scan.specs.Scan.{scan};
-ghost use Rattle.cml_stepper.specs.{Hands.{script_of}, Questions.{IsQuestion, SaysOffers, TellsEnd, OffersSo}};
+ghost use Rattle.cml_stepper.specs.{Questions.{AreOffers, ComesNext, IsQuestion}, Steppers.{places_known}};
 ghost use Rattle.cml_stepper.specs.Questions as spec;
+ghost use Rattle.cml_stepper.specs.Offers as offers;
 
-use crate::offer::{LISTED, push_named, push_rows};
-use crate::pick::next_tick;
+use crate::offer::{LISTED, Rows, rows_of};
 use crate::ready::ready_threads;
 use crate::rows::rows_in;
-use crate::spot::spots_of;
 use crate::stepper::Stepper;
-use crate::words::{push_numbered, push_numbered_line};
 use cml_book::Book;
-use cml_ending::{Spot, explain_end};
+use cml_ending::{Ending, Named, Spot, ending_of, place_of, spots_of, who_is};
 use cml_hub::{End, Hub};
 use cml_index::OfferIndex;
-use cml_phrase::{Place, push_line, statement_place};
+use cml_narrative::next_tick;
+use cml_phrase::Place;
 use cml_scan::Meet;
 use std::alloc::{AllocError, Global};
 
-// What stands behind the number of the first item.
-const FIRST_MARK: &[u8] = b"? (? says what can be typed)";
+/// A thread that runs, and where it stands, if that is known.
+#[derive(Drop)]
+pub struct Ready {
+    pub thread: Named,
+    pub place: Option<Place>,
+}
 
-// Appends where a thread stands, if that is known.
-fn push_standing(alloc: Global, out: &mut Vec<u8>, place: Option<Place>) -> Result<(), AllocError>
-    ensures { OnOk result (out.new.items ≡ out.old.items ++ spec.stands_words place) }
-{
-    match place {
-        Some(place) => {
-            out.extend_from_slice(b" at ")?;
-            push_line(alloc, out, place)
-        }
-        None => Ok(()),
-    }
+/// What can happen next: the first 20 of the threads that run, and how many more there are; the first rows that can be taken; and the tick to
+/// which the time can move, if nothing else can happen.
+#[derive(Drop)]
+pub struct Offers {
+    pub ready: Vec<Ready>,
+    pub more_ready: usize,
+    pub rows: Rows,
+    pub tick: Option<u64>,
+}
+
+/// What can happen next, or how the run has ended.
+#[derive(Drop)]
+pub enum Next {
+    Offers(Offers),
+    Ended(Ending),
+}
+
+/// What can happen next, and the number of the item that does.
+#[derive(Drop)]
+pub struct Question {
+    pub next: Next,
+    pub number: usize,
 }
 
 // Those of these threads that are listed.
 fn listed(ready: &[u32]) -> &[u32]
-    ensures { result.now ≡ take spec.listed_limit ready.now }
+    ensures { result.now ≡ take offers.listed_limit ready.now }
 {
     if ready.len() > LISTED {
         &ready[..LISTED]
     } else {
         ready
     }
-}
-
-// Appends how many more threads there are than are listed, if there are.
-fn push_more(alloc: Global, out: &mut Vec<u8>, count: usize) -> Result<(), AllocError>
-    ensures { OnOk result (out.new.items ≡ out.old.items ++ spec.more_threads count) }
-{
-    if count == 0 {
-        return Ok(());
-    }
-    push_numbered_line(alloc, out, b"  and ", count as u64, b" more threads")
 }
 
 // Whether no thread of these runs, and none of these rows can be taken.
@@ -68,191 +71,110 @@ fn is_still(ready: &[u32], rows: &[Meet]) -> bool
     ready.is_empty() && rows.is_empty()
 }
 
-// Appends that the time can move, where nothing else can happen.
-fn push_clock(
-    alloc: Global,
-    out: &mut Vec<u8>,
-    book: &Book<OfferIndex>,
-    still: bool,
-) -> Result<(), AllocError>
-    ensures { OnOk result (out.new.items ≡ out.old.items ++ spec.clock_line_of still (next_alarm book.now)) }
+// The next tick for which a thread waits, where nothing else can happen.
+fn tick_to_come(book: &Book<OfferIndex>, still: bool) -> Option<u64>
+    ensures { result ≡ spec.tick_next book.now still }
 {
-    if !still {
-        return Ok(());
-    }
-    match next_tick(book) {
-        Some(tick) => {
-            push_numbered_line(
-                alloc,
-                out,
-                b"  an empty line moves the time to tick ",
-                tick,
-                b"",
-            )
-        }
-        None => Ok(()),
-    }
+    if still { next_tick(book) } else { None }
 }
 
-// That all threads have ended.
-fn all_ended(alloc: Global) -> Result<Vec<u8>, AllocError>
-    ensures { IfOk result (λ told. told.items ≡ spec.ended_text []) }
+/// The number of the item that comes next in this hub.
+pub(crate) fn next_number(hub: &Hub) -> usize
+    ensures { result ≡ length hub.now.course.items + 1 }
 {
-    Vec::from_slice(alloc, b"all threads have ended\n")
-}
-
-// What is told of the end, where this explains it.
-#[tactic(auto, using(crate::proofs::QuestionLemmas::ended_none, crate::proofs::QuestionLemmas::ended_some))]
-fn ended_words(alloc: Global, words: Vec<u8>) -> Result<Vec<u8>, AllocError>
-    ensures { IfOk result (λ told. told.items ≡ spec.ended_text words.items) }
-{
-    if words.is_empty() {
-        let told = all_ended(alloc)?;
-        return Ok(told);
-    }
-    Ok(words)
-}
-
-// What stands behind the number of the item that comes next.
-fn prompt_mark(number: u64) -> &'static [u8]
-    ensures { result.now ≡ spec.prompt_mark number }
-{
-    if number == 1 { FIRST_MARK } else { b"?" }
-}
-
-/// Appends the number of the item that comes next in this hub.
-pub(crate) fn push_prompt(alloc: Global, out: &mut Vec<u8>, hub: &Hub) -> Result<(), AllocError>
-    ensures { OnOk result (out.new.items ≡ out.old.items ++ spec.prompt_line hub.now.course) }
-{
-    let next = hub.schedule().len() as u64 + 1;
-    push_numbered_line(alloc, out, b"item ", next, prompt_mark(next))
+    hub.schedule().len() + 1
 }
 
 impl Stepper<'_> {
-    // Where a spot is.
-    fn place_of(&self, spots: &[Option<Spot>], thread: u32) -> Option<Place>
-        ensures { result ≡ option_and_then (spot_place (all_places self.now.text.now self.now.forms.now)) (spot_at spots.now thread) }
-    {
-        match spots.get(thread as usize) {
-            Some(Some(spot)) => match spot.statement {
-                Some(at) => statement_place(self.places.as_slice(), spot.function, at),
-                None => None,
-            },
-            _ => None,
-        }
-    }
-
-    // Appends the line of a thread that runs.
-    fn push_turn(
+    // A thread that runs, where these are the spots of all.
+    fn ready_thread(
         &self,
-        alloc: Global,
         hub: &Hub,
-        out: &mut Vec<u8>,
         spots: &[Option<Spot>],
         thread: u32,
-    ) -> Result<(), AllocError>
-        ensures { OnOk result (out.new.items ≡ out.old.items
-            ++ spec.turn_line (script_of self.now) (began_in hub.now.course) spots.now thread) }
+    ) -> Result<Ready, AllocError>
+        ensures { IfOk result (λ ready. ready ≡ spec.ready_thread (places_known self.now) (began_in hub.now.course) spots.now thread) }
     {
-        push_numbered(alloc, out, b"  t ", u64::from(thread))?;
-        out.extend_from_slice(b"  ")?;
-        push_named(alloc, out, self.forms, hub, thread)?;
-        push_standing(alloc, out, self.place_of(spots, thread))?;
-        out.extend_from_slice(b"\n")
+        let place = place_of(self.narrator.places(), spots, thread);
+        let thread = who_is(hub, thread)?;
+        Ok(Ready { thread, place })
     }
 
-    // Appends the lines of these threads.
-    fn push_each_turn(
+    // These threads as values.
+    fn each_ready(
         &self,
         alloc: Global,
         hub: &Hub,
-        out: &mut Vec<u8>,
         spots: &[Option<Spot>],
         threads: &[u32],
-    ) -> Result<(), AllocError>
-        ensures { OnOk result (out.new.items ≡ out.old.items
-            ++ flat_map (spec.turn_line (script_of self.now) (began_in hub.now.course) spots.now) threads.now) }
+    ) -> Result<Vec<Ready>, AllocError>
+        ensures { IfOk result (λ all. all.items ≡ map (spec.ready_thread (places_known self.now) (began_in hub.now.course) spots.now) threads.now) }
     {
+        let mut all = Vec::new(alloc);
         for thread in threads {
-            self.push_turn(alloc, hub, out, spots, *thread)?;
+            all.push(self.ready_thread(hub, spots, *thread)?)?;
         }
-        Ok(())
+        Ok(all)
     }
 
-    // Appends the lines of the threads that run, of which these are all.
-    fn push_turns(
-        &self,
-        alloc: Global,
-        hub: &Hub,
-        out: &mut Vec<u8>,
-        spots: &[Option<Spot>],
-        ready: &[u32],
-    ) -> Result<(), AllocError>
-        ensures { OnOk result (out.new.items ≡ out.old.items
-            ++ spec.turn_lines (script_of self.now) (began_in hub.now.course) spots.now ready.now) }
-    {
-        self.push_each_turn(alloc, hub, out, spots, listed(ready))?;
-        push_more(alloc, out, ready.len().saturating_sub(LISTED))
-    }
-
-    // All that can happen, where these are the spots of the threads, these threads run, and these are the first of the rows.
+    // All that can happen, where these threads run, and these are the first of the rows.
     fn offers_by(
         &self,
         alloc: Global,
         hub: &Hub,
-        spots: &[Option<Spot>],
         ready: &[u32],
         rows: &[Meet],
-    ) -> Result<Vec<u8>, AllocError>
-        requires spots { AreSpots hub.now.course spots.now }
+    ) -> Result<Offers, AllocError>
         requires ready { ready.now ≡ spec.running_from 0 hub.now.course.world.threads }
         requires rows { rows.now ≡ take 21 (scan hub.now.course.world) }
-        ensures { IfOk result (λ offered. OffersSo (script_of self.now) hub.now.course offered.items) }
+        ensures { IfOk result (AreOffers (places_known self.now) hub.now.course) }
     {
-        let mut out = Vec::new(alloc);
-        self.push_turns(alloc, hub, &mut out, spots, ready)?;
-        push_rows(alloc, &mut out, self.forms, hub, 1, rows)?;
-        push_clock(alloc, &mut out, hub.book(), is_still(ready, rows))?;
-        Ok(out)
+        let spots = spots_of(alloc, hub)?;
+        let listed_ready = self.each_ready(alloc, hub, spots.as_slice(), listed(ready))?;
+        drop(spots);
+        let listed_rows = rows_of(alloc, hub, 1, rows)?;
+        Ok(Offers {
+            ready: listed_ready,
+            more_ready: ready.len().saturating_sub(LISTED),
+            rows: listed_rows,
+            tick: tick_to_come(hub.book(), is_still(ready, rows)),
+        })
     }
 
     // All that can happen.
-    fn offers(&self, alloc: Global, hub: &Hub) -> Result<Vec<u8>, AllocError>
-        ensures { IfOk result (λ offered. OffersSo (script_of self.now) hub.now.course offered.items) }
+    fn offers(&self, alloc: Global, hub: &Hub) -> Result<Offers, AllocError>
+        ensures { IfOk result (AreOffers (places_known self.now) hub.now.course) }
     {
         let book = hub.book();
         let ready = ready_threads(alloc, book)?;
-        let spots = spots_of(alloc, hub)?;
         let rows = rows_in(alloc, book, 0, LISTED + 1)?;
         let first = rows.as_slice();
-        self.offers_by(alloc, hub, spots.as_slice(), ready.as_slice(), first)
+        self.offers_by(alloc, hub, ready.as_slice(), first)
     }
 
-    /// How the run has ended, or that no thread is left.
-    pub(crate) fn ended(&self, alloc: Global, hub: &Hub) -> Result<Vec<u8>, AllocError>
-        ensures { IfOk result (λ told. TellsEnd (script_of self.now) hub.now told.items) }
+    /// How the run has ended.
+    pub(crate) fn ended(&self, alloc: Global, hub: &Hub) -> Result<Ending, AllocError>
+        ensures { IfOk result (IsEnding (places_known self.now) hub.now) }
     {
-        let words = explain_end(alloc, self.name, self.text, self.forms, hub)?;
-        let told = ended_words(alloc, words)?;
-        Ok(told)
+        ending_of(alloc, hub, self.narrator.places())
     }
 
     // What can happen; or, where nothing can, how the run has ended.
-    fn offered(&self, alloc: Global, hub: &Hub) -> Result<Vec<u8>, AllocError>
-        ensures { IfOk result (λ offered. SaysOffers (terminal hub.now.course.world) (script_of self.now) hub.now offered.items) }
+    fn next(&self, alloc: Global, hub: &Hub) -> Result<Next, AllocError>
+        ensures { IfOk result (ComesNext (terminal hub.now.course.world) (places_known self.now) hub.now) }
     {
         match hub.end() {
             End::Quiet => {
-                let told = self.ended(alloc, hub)?;
-                Ok(told)
+                let ending = self.ended(alloc, hub)?;
+                Ok(Next::Ended(ending))
             }
             End::Budget => {
                 let spent = self.offers(alloc, hub)?;
-                Ok(spent)
+                Ok(Next::Offers(spent))
             }
             End::Partial => {
                 let left = self.offers(alloc, hub)?;
-                Ok(left)
+                Ok(Next::Offers(left))
             }
         }
     }
@@ -261,11 +183,13 @@ impl Stepper<'_> {
     ///
     /// # Errors
     /// Out of memory.
-    pub fn ask(&self, alloc: Global, hub: &Hub) -> Result<Vec<u8>, AllocError>
-        ensures { IfOk result (λ asked. IsQuestion (script_of self.now) hub.now asked.items) }
+    pub fn ask(&self, alloc: Global, hub: &Hub) -> Result<Question, AllocError>
+        ensures { IfOk result (IsQuestion (places_known self.now) hub.now) }
     {
-        let mut asked = self.offered(alloc, hub)?;
-        push_prompt(alloc, &mut asked, hub)?;
-        Ok(asked)
+        let next = self.next(alloc, hub)?;
+        Ok(Question {
+            next,
+            number: next_number(hub),
+        })
     }
 }

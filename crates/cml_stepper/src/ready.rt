@@ -1,13 +1,14 @@
 //! The threads that run.
 
 ghost use Rattle.std.specs.Prelude.{◌≡◌, ◌++◌, ◌∷◌, [], if◌then◌else◌, IfOk, OnOk, drop};
-ghost use Rattle.cml_narrative.specs.Whys.{first_running};
+ghost use Rattle.cml_narrative.specs.Whys as whys;
 ghost use Rattle.cml_stepper.specs.Questions.{running_from};
 ghost use Rattle.cml_stepper.specs.Picks as spec;
 
 use cml_book::Book;
 use cml_hub::{Hub, Item};
 use cml_index::OfferIndex;
+use cml_narrative::first_running;
 use cml_value::Tid;
 use std::alloc::{AllocError, Global};
 
@@ -34,18 +35,6 @@ pub(crate) fn ready_threads(alloc: Global, book: &Book<OfferIndex>) -> Result<Ve
         push_if(&mut ready, t, book.is_running(Tid(t)))?;
     }
     Ok(ready)
-}
-
-// The first thread that runs, from this number on.
-fn first_from(book: &Book<OfferIndex>, from: u32) -> Option<u32>
-    ensures { result ≡ first_running from (drop from book.now.threads) }
-{
-    for t in from..book.next_thread().0 {
-        if book.is_running(Tid(t)) {
-            return Some(t);
-        }
-    }
-    None
 }
 
 // The thread that had its turn by the item.
@@ -76,17 +65,17 @@ fn last_turned(items: &[Item]) -> Option<Tid>
 
 // The first thread that runs and comes after this one, if there is one.
 fn first_after(book: &Book<OfferIndex>, thread: Option<Tid>) -> Option<u32>
-    ensures { let n = spec.number_past thread in result ≡ first_running n (drop n book.now.threads) }
+    ensures { let n = spec.number_past thread in result ≡ whys.first_running n (drop n book.now.threads) }
 {
     match thread {
         Some(thread) => {
             if thread.0 < book.next_thread().0 {
-                first_from(book, thread.0 + 1)
+                first_running(book, thread.0 + 1)
             } else {
                 None
             }
         }
-        None => first_from(book, 0),
+        None => first_running(book, 0),
     }
 }
 
@@ -96,6 +85,6 @@ pub(crate) fn next_ready(hub: &Hub) -> Option<u32>
 {
     match first_after(hub.book(), last_turned(hub.schedule())) {
         Some(thread) => Some(thread),
-        None => first_from(hub.book(), 0),
+        None => first_running(hub.book(), 0),
     }
 }

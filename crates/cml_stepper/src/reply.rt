@@ -1,154 +1,150 @@
-//! What is done at an answer, and what is said to it.
+//! What is done at an answer.
 
-ghost use Rattle.std.specs.Prelude.{◌≡◌, ◌++◌, ◌∷◌, ◌<◌, ◌-◌, [], IfOk, OnOk, true, false, length, take, drop};
+ghost use Rattle.std.specs.Prelude.{◌≡◌, ◌+◌, IfOk, OnOk, true, length, drop};
 ghost use Rattle.cml_hub.specs.{Courses.{Adds}, Kept.{NoneOut}, Runs.{is_allowed}};
-ghost use Rattle.cml_narrative.specs.{Tales.{TellsItem}, Whys.{why_words}};
+ghost use Rattle.cml_narrative.specs.Deeds.{HasHappened};
 ghost use Rattle.cml_scan.specs.Scan.{scan};
-ghost use Rattle.cml_stepper.specs.{Hands.{script_of, FollowsTo}, Tellings.{told_by_hand}};
-ghost use Rattle.cml_stepper.specs.Replies.{AnswersLine, DoneAt, HappensSaid, StaysSaid, Undoes, UndoesLast, TakesNamed};
+ghost use Rattle.cml_stepper.specs.Steppers.{places_known, FollowsTo};
+ghost use Rattle.cml_stepper.specs.Replies.{AnswersLine, DoneAt, IsGone, IsListed, Lists, Undoes, UndoesLast, TakesNamed};
 ghost use Rattle.cml_stepper.specs.Replies as spec;
 ghost use Rattle.cml_stepper.specs.Picks as picks;
 
 use crate::line::{Typed, typed_from};
-use crate::offer::{LISTED, push_rows};
+use crate::offer::{LISTED, Rows, rows_of};
 use crate::pick::item_typed;
-use crate::question::push_prompt;
+use crate::question::{Question, next_number};
 use crate::rows::rows_in;
 use crate::stepper::Stepper;
-use crate::words::push_numbered_line;
 use cml_book::Book;
+use cml_ending::Ending;
 use cml_hub::{Hub, Item};
 use cml_index::OfferIndex;
-use cml_narrative::push_why;
+use cml_narrative::{Happened, Why, why_not};
 use cml_scan::Meet;
-use cml_text::Sexpr;
 use cml_value::Tid;
 use std::alloc::{AllocError, Global};
 
 /// The answer to a line.
 #[derive(Drop)]
-pub struct Reply {
-    /// What is said.
-    pub text: Vec<u8>,
+pub enum Reply {
+    /// It is the end.
+    Quit,
+    /// An item happened: what it did, what it added to the output, and what can happen after it.
+    Gone {
+        happened: Happened,
+        printed: Vec<u8>,
+        question: Question,
+    },
+    /// The item of this number was undone, and this can happen before it.
+    Undone {
+        number: usize,
+        question: Question,
+    },
+    /// Nothing has changed, and an item of this number comes next.
+    Stays {
+        stay: Stay,
+        number: usize,
+    },
+}
+
+/// Why nothing changes at a line, or what was asked by it.
+#[derive(Drop)]
+pub enum Stay {
+    /// There is no item to undo.
+    NoItem,
+    /// How the run has ended, or who waits.
+    Waits(Ending),
+    /// Some rows.
+    Listed(Rows),
+    /// There is no row of this number.
+    NoRow(u32),
+    /// Why the thread has no turn.
+    NoTurn(Tid, Why),
+    /// Nothing can happen.
+    Nothing,
+    /// More than one row can be taken.
+    ManyRows,
+    /// The line says nothing that is known.
+    Unknown,
+}
+
+impl Reply {
     /// Whether it is the end.
-    pub ends: bool,
+    pub fn ends(&self) -> bool
+        ensures { result ≡ spec.is_end self.now }
+    {
+        match self {
+            Reply::Quit => true,
+            _ => false,
+        }
+    }
 }
 
-// What can be answered.
-const HELP: &[u8] =
-    b"a number takes that row, t N gives thread N its turn, an empty line goes on, l N lists rows from number N on, w says who waits, u undoes the last item, q ends\n";
-
-// Nothing has changed: these words are said, and the same item is asked for.
-fn stay(alloc: Global, hub: &Hub, words: Vec<u8>) -> Result<Reply, AllocError>
-    ensures stays { IfOk result (λ reply. StaysSaid hub.now hub.now words.items reply.text.items) }
-    ensures on { IfOk result (λ reply. reply.ends ≡ false) }
+// Nothing has changed.
+fn stays(hub: &Hub, stay: Stay) -> Reply
+    ensures { result ≡ Reply.Stays stay (length hub.now.course.items + 1) }
 {
-    let mut text = words;
-    push_prompt(alloc, &mut text, hub)?;
-    Ok(Reply { text, ends: false })
-}
-
-// That there is no row of this number.
-fn no_row(alloc: Global, number: u32) -> Result<Vec<u8>, AllocError>
-    ensures { IfOk result (λ told. told.items ≡ spec.no_row_line number) }
-{
-    let mut told = Vec::new(alloc);
-    push_numbered_line(
-        alloc,
-        &mut told,
-        b"there is no row ",
-        u64::from(number),
-        b"",
-    )?;
-    Ok(told)
-}
-
-// Why a thread has no turn.
-fn no_turn(alloc: Global, forms: &[Sexpr], hub: &Hub, thread: Tid) -> Result<Vec<u8>, AllocError>
-    ensures { IfOk result (λ told. told.items ≡ why_words forms.now hub.now.course.world (Item.Turn thread) ++ 10 ∷ []) }
-{
-    let mut told = Vec::new(alloc);
-    push_why(alloc, &mut told, forms, hub, &Item::Turn(thread))?;
-    told.extend_from_slice(b"\n")?;
-    Ok(told)
+    Reply::Stays {
+        stay,
+        number: next_number(hub),
+    }
 }
 
 // Why an empty line means nothing.
-#[tactic(auto, using(crate::proofs::ReplyLemmas::none_next, crate::proofs::ReplyLemmas::many_next))]
-fn no_next(alloc: Global, book: &Book<OfferIndex>) -> Result<Vec<u8>, AllocError>
-    ensures { IfOk result (λ told. told.items ≡ spec.no_next_line (scan book.now)) }
+fn no_next(alloc: Global, book: &Book<OfferIndex>) -> Result<Stay, AllocError>
+    ensures { IfOk result (λ stay. stay ≡ spec.no_next (scan book.now)) }
 {
     let rows = rows_in(alloc, book, 0, 1)?;
     if rows.is_empty() {
-        let told = Vec::from_slice(
-            alloc,
-            b"nothing can happen: u undoes the last item, q ends\n",
-        )?;
-        return Ok(told);
+        return Ok(Stay::Nothing);
     }
-    let told = Vec::from_slice(
-        alloc,
-        b"more than one row can be taken: a number takes one\n",
-    )?;
-    Ok(told)
+    Ok(Stay::ManyRows)
 }
 
-// What can be answered.
-fn help(alloc: Global) -> Result<Vec<u8>, AllocError>
-    ensures { IfOk result (λ told. told.items ≡ spec.help_line) }
+// Why a thread has no turn.
+fn no_turn(alloc: Global, hub: &Hub, thread: Tid) -> Result<Stay, AllocError>
+    ensures { IfOk result (λ stay. stay ≡ spec.unfit hub.now.course.world (Typed.Turn thread)) }
 {
-    Vec::from_slice(alloc, HELP)
+    let why = why_not(alloc, hub, &Item::Turn(thread))?;
+    Ok(Stay::NoTurn(thread, why))
 }
 
 // Why an answer names no item.
-fn unfit(alloc: Global, forms: &[Sexpr], hub: &Hub, what: Typed) -> Result<Vec<u8>, AllocError>
-    ensures { IfOk result (λ told. told.items ≡ spec.unfit_line forms.now hub.now.course.world what) }
+fn unfit(alloc: Global, hub: &Hub, what: Typed) -> Result<Stay, AllocError>
+    ensures { IfOk result (λ stay. stay ≡ spec.unfit hub.now.course.world what) }
 {
     match what {
-        Typed::Row(number) => no_row(alloc, number),
-        Typed::Turn(thread) => no_turn(alloc, forms, hub, thread),
+        Typed::Row(number) => Ok(Stay::NoRow(number)),
+        Typed::Turn(thread) => no_turn(alloc, hub, thread),
         Typed::Next => no_next(alloc, hub.book()),
-        Typed::List(_) => help(alloc),
-        Typed::Waits => help(alloc),
-        Typed::Undo => help(alloc),
-        Typed::Quit => help(alloc),
-        Typed::Unknown => help(alloc),
+        Typed::List(_) => Ok(Stay::Unknown),
+        Typed::Waits => Ok(Stay::Unknown),
+        Typed::Undo => Ok(Stay::Unknown),
+        Typed::Quit => Ok(Stay::Unknown),
+        Typed::Unknown => Ok(Stay::Unknown),
     }
 }
 
-// The rows from this number on, which is not 0, where these are the first of them.
-#[tactic(auto, using(crate::proofs::ReplyLemmas::no_list, crate::proofs::ReplyLemmas::some_list))]
-fn list_of(
-    alloc: Global,
-    forms: &[Sexpr],
-    hub: &Hub,
-    number: u32,
-    rows: &[Meet],
-) -> Result<Vec<u8>, AllocError>
-    requires number { 0 < number }
-    requires rows { rows.now ≡ take 21 (drop (number - 1) (scan hub.now.course.world)) }
-    ensures { IfOk result (λ told. told.items ≡ spec.list_text forms.now hub.now.course number) }
+// The rows from this number on, where these are the first of them.
+fn list_of(alloc: Global, hub: &Hub, number: u32, rows: &[Meet]) -> Result<Stay, AllocError>
+    ensures { IfOk result (IsListed hub.now.course number rows.now) }
 {
     if rows.is_empty() {
-        let told = no_row(alloc, number)?;
-        return Ok(told);
+        return Ok(Stay::NoRow(number));
     }
-    let mut told = Vec::new(alloc);
-    push_rows(alloc, &mut told, forms, hub, number, rows)?;
-    Ok(told)
+    let listed = rows_of(alloc, hub, number, rows)?;
+    Ok(Stay::Listed(listed))
 }
 
 // The rows from this number on.
-fn list(alloc: Global, forms: &[Sexpr], hub: &Hub, number: u32) -> Result<Vec<u8>, AllocError>
-    ensures { IfOk result (λ told. told.items ≡ spec.list_text forms.now hub.now.course number) }
+fn list(alloc: Global, hub: &Hub, number: u32) -> Result<Stay, AllocError>
+    ensures { IfOk result (Lists hub.now.course number) }
 {
     if number == 0 {
-        return no_row(alloc, number);
+        return Ok(Stay::NoRow(number));
     }
-    let book = hub.book();
-    let rows = rows_in(alloc, book, number as usize - 1, LISTED + 1)?;
-    let first = rows.as_slice();
-    list_of(alloc, forms, hub, number, first)
+    let rows = rows_in(alloc, hub.book(), number as usize - 1, LISTED + 1)?;
+    list_of(alloc, hub, number, rows.as_slice())
 }
 
 // What is left behind so many bytes.
@@ -162,19 +158,6 @@ fn behind(bytes: &[u8], count: usize) -> &[u8]
     }
 }
 
-// Appends what was added to the output, behind a mark.
-#[tactic(auto, using(crate::proofs::ReplyLemmas::marked_none, crate::proofs::ReplyLemmas::marked_some))]
-fn push_marked(out: &mut Vec<u8>, bytes: &[u8]) -> Result<(), AllocError>
-    ensures { OnOk result (out.new.items ≡ out.old.items ++ spec.marked bytes.now) }
-{
-    if bytes.is_empty() {
-        return Ok(());
-    }
-    out.extend_from_slice(b"| ")?;
-    out.extend_from_slice(bytes)?;
-    Ok(())
-}
-
 // How much was printed, with the lines of faults.
 fn printed_len(hub: &Hub) -> usize
     ensures { result ≡ length hub.now.course.output }
@@ -182,56 +165,29 @@ fn printed_len(hub: &Hub) -> usize
     hub.out().len()
 }
 
-// Appends what was added to the output behind so many bytes, behind a mark.
-fn push_printed(text: &mut Vec<u8>, hub: &Hub, before: usize) -> Result<(), AllocError>
-    ensures { OnOk result (text.new.items ≡ text.old.items ++ spec.marked (drop before hub.now.course.output)) }
+// What was added to the output behind so many bytes.
+fn printed_behind(alloc: Global, hub: &Hub, before: usize) -> Result<Vec<u8>, AllocError>
+    ensures { IfOk result (λ printed. printed.items ≡ drop before hub.now.course.output) }
 {
-    let printed = behind(hub.out().as_bytes(), before);
-    push_marked(text, printed)
-}
-
-// A text, and what is said behind it.
-fn join(text: Vec<u8>, behind: Vec<u8>) -> Result<Vec<u8>, AllocError>
-    ensures { IfOk result (λ joined. joined.items ≡ text.items ++ behind.items) }
-{
-    let mut joined = text;
-    joined.extend_from_slice(behind.as_slice())?;
-    Ok(joined)
-}
-
-// That there is no item to undo.
-fn no_item(alloc: Global) -> Result<Vec<u8>, AllocError>
-    ensures { IfOk result (λ told. told.items ≡ spec.no_item_line) }
-{
-    Vec::from_slice(alloc, b"there is no item to undo\n")
-}
-
-// That the item of this number is undone.
-fn undone(alloc: Global, number: usize) -> Result<Vec<u8>, AllocError>
-    ensures { IfOk result (λ told. told.items ≡ spec.undone_line number) }
-{
-    let mut told = Vec::new(alloc);
-    push_numbered_line(alloc, &mut told, b"item ", number as u64, b" is undone")?;
-    Ok(told)
+    Vec::from_slice(alloc, behind(hub.out().as_bytes(), before))
 }
 
 impl Stepper<'_> {
-    // The item happens, which may. Returns its line.
-    fn tell(&mut self, alloc: Global, hub: &mut Hub, item: Item) -> Result<Vec<u8>, AllocError>
+    // The item happens, which may. Returns what it did.
+    fn tell(&mut self, alloc: Global, hub: &mut Hub, item: Item) -> Result<Happened, AllocError>
         requires none_out { NoneOut hub.old }
         requires there { FollowsTo hub.old.course self.old }
         requires allowed { is_allowed hub.old.course.world item ≡ true }
-        ensures told { IfOk result (λ told. TellsItem (told_by_hand self.old.text.now self.old.forms.now) hub.old.course item hub.new.course told.items) }
+        ensures told { IfOk result (HasHappened (places_known self.old) hub.old.course item hub.new.course) }
         ensures adds { OnOk result (Adds hub.old.course item hub.new.course) }
         ensures budget { OnOk result (hub.new.budget ≡ hub.old.budget) }
         ensures none_out { NoneOut hub.new }
         ensures there { OnOk result (FollowsTo hub.new.course self.new) }
-        ensures script { script_of self.new ≡ script_of self.old }
+        ensures places { places_known self.new ≡ places_known self.old }
     {
-        let mut told = Vec::new(alloc);
-        match self.narrator.tell(alloc, hub, &mut told, item)? {
-            true => Ok(told),
-            false => unreachable!(),
+        match self.narrator.tell(alloc, hub, item)? {
+            Some(happened) => Ok(happened),
+            None => unreachable!(),
         }
     }
 
@@ -240,20 +196,19 @@ impl Stepper<'_> {
         requires none_out { NoneOut hub.old }
         requires there { FollowsTo hub.old.course self.old }
         requires allowed { is_allowed hub.old.course.world item ≡ true }
-        ensures goes { IfOk result (λ reply. HappensSaid (script_of self.old) hub.old item hub.new reply.text.items) }
-        ensures on { IfOk result (λ reply. reply.ends ≡ false) }
+        ensures goes { IfOk result (IsGone (places_known self.old) hub.old item hub.new) }
         ensures none_out { NoneOut hub.new }
         ensures there { IfOk result (λ reply. FollowsTo hub.new.course self.new) }
-        ensures script { script_of self.new ≡ script_of self.old }
+        ensures places { places_known self.new ≡ places_known self.old }
     {
         let before = printed_len(hub);
-        let mut text = self.tell(alloc, hub, item)?;
-        push_printed(&mut text, hub, before)?;
+        let happened = self.tell(alloc, hub, item)?;
+        let printed = printed_behind(alloc, hub, before)?;
         let question = self.ask(alloc, hub)?;
-        let said = join(text, question)?;
-        Ok(Reply {
-            text: said,
-            ends: false,
+        Ok(Reply::Gone {
+            happened,
+            printed,
+            question,
         })
     }
 
@@ -261,11 +216,10 @@ impl Stepper<'_> {
     fn go_on(&mut self, alloc: Global, hub: &mut Hub, what: Typed) -> Result<Reply, AllocError>
         requires none_out { NoneOut hub.old }
         requires there { FollowsTo hub.old.course self.old }
-        ensures moves { IfOk result (λ reply. TakesNamed (script_of self.old) what (picks.item_typed hub.old.course.world hub.old.course.items what) hub.old hub.new reply.text.items) }
-        ensures on { IfOk result (λ reply. reply.ends ≡ false) }
+        ensures moves { IfOk result (TakesNamed (places_known self.old) what (picks.item_typed hub.old.course.world hub.old.course.items what) hub.old hub.new) }
         ensures none_out { NoneOut hub.new }
         ensures there { IfOk result (λ reply. FollowsTo hub.new.course self.new) }
-        ensures script { script_of self.new ≡ script_of self.old }
+        ensures places { places_known self.new ≡ places_known self.old }
     {
         let named = item_typed(alloc, hub, what)?;
         match named {
@@ -274,9 +228,8 @@ impl Stepper<'_> {
                 Ok(gone)
             }
             None => {
-                let words = unfit(alloc, self.forms, hub, what)?;
-                let stayed = stay(alloc, hub, words)?;
-                Ok(stayed)
+                let stay = unfit(alloc, hub, what)?;
+                Ok(stays(hub, stay))
             }
         }
     }
@@ -284,37 +237,29 @@ impl Stepper<'_> {
     // The last item is undone, of which there is one.
     fn go_back(&mut self, alloc: Global, hub: &mut Hub) -> Result<Reply, AllocError>
         requires { NoneOut hub.old }
-        ensures undoes { IfOk result (λ reply. Undoes (script_of self.old) hub.old hub.new reply.text.items) }
-        ensures on { IfOk result (λ reply. reply.ends ≡ false) }
+        ensures undoes { IfOk result (Undoes (places_known self.old) hub.old hub.new) }
         ensures none_out { NoneOut hub.new }
         ensures there { IfOk result (λ reply. FollowsTo hub.new.course self.new) }
-        ensures script { script_of self.new ≡ script_of self.old }
+        ensures places { places_known self.new ≡ places_known self.old }
     {
-        let told = undone(alloc, hub.schedule().len())?;
+        let number = hub.schedule().len();
         self.undo(alloc, hub)?;
-        let asked = self.ask(alloc, hub)?;
-        let said = join(told, asked)?;
-        Ok(Reply {
-            text: said,
-            ends: false,
-        })
+        let question = self.ask(alloc, hub)?;
+        Ok(Reply::Undone { number, question })
     }
 
     // The last item is undone, if there is one.
     fn undo_last(&mut self, alloc: Global, hub: &mut Hub) -> Result<Reply, AllocError>
         requires none_out { NoneOut hub.old }
         requires there { FollowsTo hub.old.course self.old }
-        ensures undoes { IfOk result (λ reply. UndoesLast hub.old.course.items (script_of self.old) hub.old hub.new reply.text.items) }
-        ensures on { IfOk result (λ reply. reply.ends ≡ false) }
+        ensures undoes { IfOk result (UndoesLast hub.old.course.items (places_known self.old) hub.old hub.new) }
         ensures none_out { NoneOut hub.new }
         ensures there { IfOk result (λ reply. FollowsTo hub.new.course self.new) }
-        ensures script { script_of self.new ≡ script_of self.old }
+        ensures places { places_known self.new ≡ places_known self.old }
     {
         let count = hub.schedule().len();
         if count == 0 {
-            let words = no_item(alloc)?;
-            let stayed = stay(alloc, hub, words)?;
-            return Ok(stayed);
+            return Ok(stays(hub, Stay::NoItem));
         }
         let gone = self.go_back(alloc, hub)?;
         Ok(gone)
@@ -324,29 +269,24 @@ impl Stepper<'_> {
     fn react(&mut self, alloc: Global, hub: &mut Hub, what: Typed) -> Result<Reply, AllocError>
         requires none_out { NoneOut hub.old }
         requires there { FollowsTo hub.old.course self.old }
-        ensures does { IfOk result (λ reply. DoneAt (script_of self.old) what hub.old reply.ends hub.new reply.text.items) }
+        ensures does { IfOk result (DoneAt (places_known self.old) what hub.old hub.new) }
         ensures none_out { NoneOut hub.new }
         ensures there { IfOk result (λ reply. FollowsTo hub.new.course self.new) }
-        ensures script { script_of self.new ≡ script_of self.old }
+        ensures places { places_known self.new ≡ places_known self.old }
     {
         match what {
-            Typed::Quit => {
-                let text = Vec::new(alloc);
-                Ok(Reply { text, ends: true })
-            }
+            Typed::Quit => Ok(Reply::Quit),
             Typed::Undo => {
                 let undone = self.undo_last(alloc, hub)?;
                 Ok(undone)
             }
             Typed::Waits => {
-                let told = self.ended(alloc, hub)?;
-                let waits = stay(alloc, hub, told)?;
-                Ok(waits)
+                let ending = self.ended(alloc, hub)?;
+                Ok(stays(hub, Stay::Waits(ending)))
             }
             Typed::List(number) => {
-                let words = list(alloc, self.forms, hub, number)?;
-                let listed = stay(alloc, hub, words)?;
-                Ok(listed)
+                let listed = list(alloc, hub, number)?;
+                Ok(stays(hub, listed))
             }
             Typed::Row(_) => {
                 let taken = self.go_on(alloc, hub, what)?;
@@ -367,18 +307,17 @@ impl Stepper<'_> {
         }
     }
 
-    /// Does what a line says, without its line feed, and returns what is said to it. Where an item happened or was undone the next question
-    /// stands behind that; else only the number of the item that comes next. Where the line fits nothing, nothing happens.
+    /// Does what a line says, without its line feed. Where the line fits nothing, nothing happens.
     ///
     /// # Errors
     /// Out of memory. The item may have happened.
     pub fn answer(&mut self, alloc: Global, hub: &mut Hub, line: &[u8]) -> Result<Reply, AllocError>
         requires none_out { NoneOut hub.old }
         requires there { FollowsTo hub.old.course self.old }
-        ensures answers { IfOk result (λ reply. AnswersLine (script_of self.old) hub.old line.now reply.ends hub.new reply.text.items) }
+        ensures answers { IfOk result (λ reply. AnswersLine (places_known self.old) hub.old line.now reply hub.new) }
         ensures none_out { NoneOut hub.new }
         ensures there { IfOk result (λ reply. FollowsTo hub.new.course self.new) }
-        ensures script { script_of self.new ≡ script_of self.old }
+        ensures places { places_known self.new ≡ places_known self.old }
         ensures program { IfOk result (λ _. hub.new.course.program ≡ hub.old.course.program) }
         ensures budget { IfOk result (λ _. hub.new.budget ≡ hub.old.budget) }
     {

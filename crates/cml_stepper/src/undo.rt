@@ -2,8 +2,8 @@
 
 ghost use Rattle.std.specs.Prelude.{◌≡◌, ◌≤◌, ◌∷◌, ◌++◌, IfOk, OnOk, OnErr, [], true, take, length};
 ghost use Rattle.cml_hub.specs.{Kept.{NoneOut}, Runs.{is_allowed}};
-ghost use Rattle.cml_narrative.specs.Tellers.{tale_of, Knows};
-ghost use Rattle.cml_stepper.specs.{Hands.{script_of, FollowsTo}, Replies.{LeadsBack}};
+ghost use Rattle.cml_narrative.specs.Narrators.{places_of, Knows};
+ghost use Rattle.cml_stepper.specs.{Replies.{LeadsBack}, Steppers.{places_known, FollowsTo}};
 
 use crate::stepper::Stepper;
 use cml_hub::{Hub, Item};
@@ -34,12 +34,7 @@ fn let_go(hub: Hub) {
 }
 
 // The item comes, which is allowed now.
-fn come(
-    alloc: Global,
-    hub: &mut Hub,
-    narrator: &mut Narrator<'_>,
-    item: Item,
-) -> Result<(), AllocError>
+fn come(alloc: Global, hub: &mut Hub, narrator: &mut Narrator, item: Item) -> Result<(), AllocError>
     requires out { NoneOut hub.old }
     requires allowed { is_allowed hub.old.course.world item ≡ true }
     requires knows { Knows hub.old.course narrator.old }
@@ -48,7 +43,7 @@ fn come(
     ensures items { OnOk result (hub.new.course.items ≡ hub.old.course.items ++ item ∷ []) }
     ensures none_out { OnOk result (NoneOut hub.new) }
     ensures knows { OnOk result (Knows hub.new.course narrator.new) }
-    ensures tale { tale_of narrator.new ≡ tale_of narrator.old }
+    ensures places { places_of narrator.new ≡ places_of narrator.old }
 {
     match narrator.follow(alloc, hub, item)? {
         true => Ok(()),
@@ -61,7 +56,7 @@ fn follow_first(
     alloc: Global,
     hub: &Hub,
     second: &mut Hub,
-    narrator: &mut Narrator<'_>,
+    narrator: &mut Narrator,
     count: usize,
 ) -> Result<(), AllocError>
     requires program { second.old.course.program ≡ hub.now.course.program }
@@ -74,7 +69,7 @@ fn follow_first(
     ensures items { OnOk result (second.new.course.items ≡ take count hub.now.course.items) }
     ensures none_out { OnOk result (NoneOut second.new) }
     ensures knows { OnOk result (Knows second.new.course narrator.new) }
-    ensures tale { tale_of narrator.new ≡ tale_of narrator.old }
+    ensures places { places_of narrator.new ≡ places_of narrator.old }
 {
     let items = hub.schedule();
     for i in 0..count {
@@ -104,11 +99,11 @@ impl Stepper<'_> {
         ensures back { OnOk result (LeadsBack hub.old hub.new) }
         ensures none_out { NoneOut hub.new }
         ensures there { OnOk result (FollowsTo hub.new.course self.new) }
-        ensures script { script_of self.new ≡ script_of self.old }
+        ensures places { places_known self.new ≡ places_known self.old }
         ensures err { OnErr result (hub.new ≡ hub.old) }
     {
         let count = hub.schedule().len().saturating_sub(1);
-        let mut narrator = Narrator::new(alloc, self.text, self.forms, 0)?;
+        let mut narrator = Narrator::new(alloc, self.text, self.forms)?;
         let mut second = beginning(alloc, hub)?;
         match follow_first(alloc, hub, &mut second, &mut narrator, count) {
             Ok(()) => {

@@ -23,7 +23,7 @@ use Rattle.cml_book.specs.Commit.{commit}
 use Rattle.cml_book.specs.End.{end}
 use Rattle.cml_book.specs.Clock.{clock}
 use Rattle.cml_book.specs.Step.{step, answered}
-use Rattle.cml_refused.specs.Whys.{why_of}
+use Rattle.cml_trace.specs.Whys.{why_of}
 use Rattle.cml_trace.specs.declared.fault.TraceEnd.{TraceEnd}
 use Rattle.cml_trace.specs.declared.fault.TraceEnd.TheVariants.{TooLong}
 use Rattle.cml_trace.specs.declared.fault.TraceFault.{TraceFault}
@@ -36,7 +36,10 @@ use Rattle.cml_trace.specs.Answers.{after_order, max_input}
 use Rattle.cml_trace.specs.Bads.{IsBadFor}
 use Rattle.cml_trace.specs.Lines.{TraceLines}
 use Rattle.cml_trace.specs.Runs.{Came, IsAnswered, IsBegun, IsBroken}
-use Rattle.cml_trace.specs.Explained.{refusal_in, line_said, told_of_refusal, told_of, Explains}
+use Rattle.cml_trace.specs.declared.why.Bad.{Bad}
+use Rattle.cml_trace.specs.declared.why.Cause.TheVariants as cause
+use Rattle.cml_trace.specs.declared.why.Told.{Told}
+use Rattle.cml_trace.specs.Explained.{refusal_in, line_told, told_of_refusal, told_of, Explains}
 use Rattle.cml_trace.proofs.EngineLemmas.{all_written}
 
 -- a refusal changes nothing
@@ -66,13 +69,13 @@ refused_keeps w (command.End t) why e = answered_keeps (λ _. reply.Done) w (end
 refused_keeps w (command.Clock k) why e = answered_keeps (λ _. reply.Done) w (clock w k) why (λ r. refl) e
 
 -- The lines before these were explained: what explains the lines here explains all after that.
-pub record Telling (w : PlainWorld) (all : TraceLines) (v : PlainWorld) (here : TraceLines) (old new : List ℕ) : Type 0 where
-  pub told : List ℕ
-  pub leads : (rest : List ℕ) → Explains here.number v here.left rest → Explains all.number w all.left (told ++ rest)
+pub record Telling (w : PlainWorld) (all : TraceLines) (v : PlainWorld) (here : TraceLines) (old new : List Told) : Type 0 where
+  pub told : List Told
+  pub leads : (rest : List Told) → Explains here.number v here.left rest → Explains all.number w all.left (told ++ rest)
   pub whole : new ≡ old ++ told
 
 -- one line more
-pub Telling-on : (w : PlainWorld) (all : TraceLines) (v u : PlainWorld) (here next : TraceLines) (old mid new : List ℕ) (n : ℕ) (first : List ℕ) (what : Request) →
+pub Telling-on : (w : PlainWorld) (all : TraceLines) (v u : PlainWorld) (here next : TraceLines) (old mid new : List Told) (n : ℕ) (first : List ℕ) (what : Request) →
     Telling w all v here old mid → n ≡ here.number → here.left ≡ first ∷ next.left → next.number ≡ here.number + 1 → AsksFor first what → u ≡ after_order what v →
     new ≡ mid ++ told_of n v what → Telling w all u next old new
 Telling-on w all v u here next old mid new n first what t number is count asks stands more =
@@ -84,53 +87,46 @@ Telling-on w all v u here next old mid new n first what t number is count asks s
           let there : Explains (here.number + 1) (after_order what v) next.left rest =
           subst (λ (x : PlainWorld). Explains (here.number + 1) x next.left rest) stands (subst (λ (k : ℕ). Explains k u next.left rest) count h) in
           let one : Explains here.number v (first ∷ next.left) (text ++ rest) = inl (what, rest, asks, refl, there) in
-          subst (λ (xs : List ℕ). Explains all.number w all.left xs) (sym (append_assoc t.told text rest))
+          subst (λ (xs : List Told). Explains all.number w all.left xs) (sym (append_assoc t.told text rest))
           (t.leads (text ++ rest) (subst (λ (ls : List (List ℕ)). Explains here.number v ls (text ++ rest)) (sym is) one));
       whole = adds ∙ ap (λ xs. xs ++ text) t.whole ∙ append_assoc old t.told text;
     }
 
--- what is told of these lines was appended
-abbrev pub AreTold : PlainWorld → TraceLines → List ℕ → List ℕ → Type 0
-AreTold w all old new = (told : List ℕ) × Explains all.number w all.left told × (new ≡ old ++ told)
+-- what is told of these lines was added
+abbrev pub AreTold : PlainWorld → TraceLines → List Told → List Told → Type 0
+AreTold w all old new = (told : List Told) × Explains all.number w all.left told × (new ≡ old ++ told)
 
 -- all of it
-pub told_end : (w : PlainWorld) (all : TraceLines) (v : PlainWorld) (here : TraceLines) (old new : List ℕ) → Telling w all v here old new → here.left ≡ [] → AreTold w all old new
+pub told_end : (w : PlainWorld) (all : TraceLines) (v : PlainWorld) (here : TraceLines) (old new : List Told) → Telling w all v here old new → here.left ≡ [] → AreTold w all old new
 told_end w all v here old new t none =
     let last : Explains here.number v here.left [] = subst (λ (ls : List (List ℕ)). Explains here.number v ls []) (sym none) refl in
     (t.told ++ [], t.leads [] last, t.whole ∙ ap (λ xs. old ++ xs) (sym (append-nil t.told)))
 
 -- the next line is bad
-pub told_bad : {A E : Type 0} (r : Result A E) (w : PlainWorld) (all : TraceLines) (v : PlainWorld) (here : TraceLines) (old mid new : List ℕ) (n : ℕ) (first : List ℕ) (behind : List (List ℕ)) →
+pub told_bad : {A E : Type 0} (r : Result A E) (w : PlainWorld) (all : TraceLines) (v : PlainWorld) (here : TraceLines) (old mid new : List Told) (n : ℕ) (first : List ℕ) (behind : List (List ℕ)) →
     Telling w all v here old mid → n ≡ here.number → here.left ≡ first ∷ behind → IsBad first →
-    OnOk r ((why : List ℕ) × IsBadFor first why × (new ≡ mid ++ line_said n why)) → OnOk r (AreTold w all old new)
+    OnOk r ((why : Bad) × IsBadFor first why × (new ≡ mid ++ line_told n (cause.Bad why))) → OnOk r (AreTold w all old new)
 told_bad (Ok a) w all v here old mid new n first behind t number is bad (why, for, more) =
-    let said = line_said here.number why in
-    let adds : new ≡ mid ++ said = more ∙ ap (λ k. mid ++ line_said k why) number in
+    let said = line_told here.number (cause.Bad why) in
+    let adds : new ≡ mid ++ said = more ∙ ap (λ k. mid ++ line_told k (cause.Bad why)) number in
     let one : Explains here.number v (first ∷ behind) said = inr (why, bad, for, refl) in
     let last = subst (λ (ls : List (List ℕ)). Explains here.number v ls said) (sym is) one in
     (t.told ++ said, t.leads said last, adds ∙ ap (λ xs. xs ++ said) t.whole ∙ append_assoc old t.told said)
 told_bad (Err e) w all v here old mid new n first behind t number is bad said = tt
 
--- another text of the same bytes was appended
-pub appends_same : {A E : Type 0} (r : Result A E) (old new a b : List ℕ) → a ≡ b → OnOk r (new ≡ old ++ a) → OnOk r (new ≡ old ++ b)
+-- another list of the same lines was added
+pub appends_same : {A E : Type 0} (r : Result A E) (old new a b : List Told) → a ≡ b → OnOk r (new ≡ old ++ a) → OnOk r (new ≡ old ++ b)
 appends_same (Ok x) old new a b same e = e ∙ ap (λ xs. old ++ xs) same
 appends_same (Err x) old new a b same e = tt
 
--- a command was refused, and its sentence appended
-pub told_refused : {A E : Type 0} (r : Result A E) (n : ℕ) (w v : PlainWorld) (c : Command) (reply : Reply) (why : Refusal) (old new : List ℕ) → step w c ≡ (v, reply) →
-    refusal_in reply ≡ Some why → OnOk r (new ≡ old ++ line_said n (why_of v c why)) → OnOk r (new ≡ old ++ told_of n w (order.Do c))
+-- a command was refused, and why was added
+pub told_refused : {A E : Type 0} (r : Result A E) (n : ℕ) (w v : PlainWorld) (c : Command) (reply : Reply) (why : Refusal) (old new : List Told) → step w c ≡ (v, reply) →
+    refusal_in reply ≡ Some why → OnOk r (new ≡ old ++ line_told n (cause.Refused (why_of v c why))) → OnOk r (new ≡ old ++ told_of n w (order.Do c))
 told_refused r n w v c reply why old new does is said =
     let at : refusal_in (step w c).1 ≡ Some why = ap (λ (p : PlainWorld × Reply). refusal_in p.1) does ∙ is in
     let same : v ≡ w = sym (ap (λ (p : PlainWorld × Reply). p.0) does) ∙ refused_keeps w c why at in
-    appends_same r old new (line_said n (why_of v c why)) (told_of n w (order.Do c))
-    (ap (λ u. line_said n (why_of u c why)) same ∙ ap (told_of_refusal n w c) (sym at)) said
-
--- why a line is bad was written on an empty page, and its sentence appended
-pub bad_told : {A E : Type 0} (r : Result A E) (line : List ℕ) (n : ℕ) (old new said page fresh : List ℕ) → fresh ≡ [] → (why : List ℕ) × IsBadFor line why × (page ≡ fresh ++ why) →
-    said ≡ page → OnOk r (new ≡ old ++ line_said n said) → OnOk r ((why : List ℕ) × IsBadFor line why × (new ≡ old ++ line_said n why))
-bad_told (Ok a) line n old new said page fresh none (why, for, more) same e =
-    (why, for, e ∙ ap (λ xs. old ++ line_said n xs) (same ∙ more ∙ ap (λ xs. xs ++ why) none))
-bad_told (Err x) line n old new said page fresh none found same e = tt
+    appends_same r old new (line_told n (cause.Refused (why_of v c why))) (told_of n w (order.Do c))
+    (ap (λ u. line_told n (cause.Refused (why_of u c why))) same ∙ ap (told_of_refusal n w c) (sym at)) said
 
 -- the whole answer was written, and so a prefix of it
 pub begun_answered : (input output : Stream) (end : TraceEnd) → IsAnswered input output end → IsBegun input output

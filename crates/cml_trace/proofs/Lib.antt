@@ -10,3 +10,5 @@ mod FormLemmas
 mod LineLemmas
 mod OneAnswerLemmas
 mod KeywordLemmas
+mod Walks
+mod ThreadLemmas

@@ -11,6 +11,7 @@ pub mod Pages
 pub mod Runs
 pub mod Faults
 pub mod Live
+pub mod Whys
 pub mod Bads
 pub mod Explained
 pub mod Laws

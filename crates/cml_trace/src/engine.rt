@@ -1,9 +1,9 @@
 //! The engine that answers a trace.
 
-ghost use Rattle.std.specs.{Prelude.{◌≡◌, ◌≤◌, ◌+◌, [], length, Ok, IfOk, IfErr, OnErr, OnOk}, List.{flat_map}, String.{string_bytes}};
+ghost use Rattle.std.specs.{Prelude.{◌≡◌, ◌≤◌, ◌+◌, [], length, Ok, IfOk, IfErr, OnErr, OnOk}, List.{flat_map}};
 ghost use Rattle.cml_scan.specs.{Scan.{scan}, World.{PlainWorld}};
 ghost use Rattle.cml_book.specs.Step.{replies_of, world_after, empty_world};
-ghost use Rattle.cml_trace.specs.{Answers.{trace_lines, max_input}, Explained.{IsExplained}, Faults.{HasCause, IsWriteFailure}, Lines.{TraceLines}};
+ghost use Rattle.cml_trace.specs.{Answers.{trace_lines, max_input}, Faults.{HasCause, IsWriteFailure}, Lines.{TraceLines}};
 ghost use Rattle.cml_trace.specs.{Pages.{Tells, TellsStart}, Replies.{reply_text, rows_text}};
 ghost use Rattle.cml_trace.specs.Runs.{AreAnswered, AreBegun, AreWritten, AreWrittenTo, IsAnswered, IsBroken};
 ghost use Rattle.cml_stream.specs.{Counts.{Calls, most_reads}, Streams.{stream, Takes, TakesStart}};
@@ -14,13 +14,14 @@ use crate::fault::{TraceEnd, TraceFault};
 use crate::line::Lines;
 use crate::page::Page;
 use crate::reply::{tell_bad, tell_replies, tell_rows};
+use crate::said::write_told;
 use cml_book::{Book, Command};
 use cml_index::OfferIndex;
 use cml_scan::Table;
 use cml_stream::Counting;
 use cml_stream::input_output::{WriteFault, read_all, write_out};
 use cml_text::law::spelled_or_faulty;
-use std::alloc::Global;
+use std::alloc::{AllocError, Global};
 use std::io::{Read, Write};
 
 /// The most bytes of a trace.
@@ -94,13 +95,10 @@ pub fn run_trace_explained<R: Read, W: Write>(
     reader: &mut Counting<'_, R>,
     writer: &mut Counting<'_, W>,
 ) -> Result<TraceEnd, TraceFault>
-    requires nothing { string_bytes told.old ≡ [] }
     requires uncalled { (reader.old.calls ≡ 0) × (reader.old.failed ≡ 0) × (writer.old.calls ≡ 0) × (writer.old.failed ≡ 0) }
     ensures ok { let input = stream (R.remaining reader.old.stream.now) (R.remaining reader.new.stream.now) in
         let output = stream (W.contents writer.old.stream.now) (W.contents writer.new.stream.now) in
         IfOk result (IsAnswered input output) }
-    ensures told { let input = stream (R.remaining reader.old.stream.now) (R.remaining reader.new.stream.now) in
-        OnOk result (IsExplained input (string_bytes told.new)) }
     ensures err { let input = stream (R.remaining reader.old.stream.now) (R.remaining reader.new.stream.now) in
         let output = stream (W.contents writer.old.stream.now) (W.contents writer.new.stream.now) in
         IfErr result (IsBroken input output) }
@@ -117,8 +115,18 @@ pub fn run_trace_explained<R: Read, W: Write>(
         return Ok(TraceEnd::TooLong);
     }
     let end = answer(alloc, OfferIndex::new(alloc), input.as_slice(), writer)?;
-    explain_trace(alloc, told, input.as_slice())?;
+    tell(alloc, told, input.as_slice())?;
     Ok(end)
+}
+
+// Appends what is told of a trace that is not too long.
+fn tell(alloc: Global, text: &mut String, trace: &[u8]) -> Result<(), AllocError>
+    requires { length trace.now ≤ max_input }
+{
+    let told = explain_trace(alloc, trace)?;
+    let result = write_told(text, told.as_slice());
+    drop(told);
+    result
 }
 
 // Answers a trace that is not too long.

@@ -5,3 +5,5 @@ pub mod Coming
 pub mod Stepping
 pub mod Endings
 pub mod Verdicts
+pub mod Digesting
+pub mod States

@@ -15,17 +15,16 @@ use Rattle.cml_hub.specs.Deeds.{fault_count}
 use Rattle.cml_verify.specs.Cores.{Core}
 use Rattle.cml_verify.specs.Sameness.{is_same, is_same_says}
 
--- a digest, by which it is looked up; the world; the machine of each thread by its number; and how many threads ended at a fault
+-- the world; the machine of each thread by its number; and how many threads ended at a fault
 pub record PlainKept : Type 0 where
-  pub digest : ℕ
   pub world : PlainWorld
   pub machines : List PlainMachine
   pub faults : ℕ
 
 abbrev pub state_code : Coded PlainKept
 state_code =
-    code_by (ℕ × (PlainWorld × (List PlainMachine × ℕ))) (coded× coded_ℕ (coded× world_code (coded× (coded_list machine_code) coded_ℕ)))
-    (λ k. (k.digest, (k.world, (k.machines, k.faults)))) (λ p. record { digest = p.0; world = p.1.0; machines = p.1.1.0; faults = p.1.1.1 }) (λ _. refl)
+    code_by (PlainWorld × (List PlainMachine × ℕ)) (coded× world_code (coded× (coded_list machine_code) coded_ℕ)) (λ k. (k.world, (k.machines, k.faults)))
+    (λ p. record { world = p.0; machines = p.1.0; faults = p.1.1 }) (λ _. refl)
 
 -- the core of which it is kept
 abbrev pub core_kept : List (PlainItem ℕ) → PlainKept → Core

@@ -4,3 +4,5 @@ pub mod Sameness
 pub mod Kept
 pub mod Lawful
 pub mod Ends
+pub mod Digests
+pub mod Placed

@@ -1,10 +1,15 @@
 -- What is promised of a search of every schedule of a program.
-use Rattle.std.specs.Prelude.{◌≡◌, ℕ, ◌≤◌, true, List, length, Option, Some, None, Contains}
+use Rattle.std.specs.Prelude.{◌≡◌, ℕ, ◌≤◌, true, List, length, map, Option, Some, None, slice_get, Contains}
+use Rattle.std.specs.List.{All}
+use Rattle.cml_check.specs.Syntax.{PlainItem}
 use Rattle.cml_scan.specs.World.{PlainWorld}
 use Rattle.cml_schedule.specs.declared.item.Item.{Item}
+use Rattle.cml_step.specs.Calls.{text_of}
+use Rattle.cml_step.specs.Machines.{PlainMachine, machine_term}
 use Rattle.cml_step.specs.Terms.{Program}
 use Rattle.cml_hub.specs.Runs.{Run, stands, terminal}
 use Rattle.cml_hub.specs.Deeds.{fault_count}
+use Rattle.cml_verify.specs.Placed.{AreThreadsIn}
 
 -- an end: the world, and how many threads ended at a fault
 pub record RunEnd : Type 0 where
@@ -31,3 +36,30 @@ IsWithin (Some most) schedule = length schedule ≤ most
 -- For each schedule (of at most so many items) that ends, one that ends so is among these.
 abbrev pub EveryEndIsTold : Program → Option ℕ → List (List Item) → Type 0
 EveryEndIsTold p most told = (schedule : List Item) (e : RunEnd) → IsWithin most schedule → EndsIn p schedule e → (one : List Item) × Contains told one × EndsIn p one e
+
+-- a state: the world, where each thread stands in the program, and how many threads ended at a fault
+pub record RunState : Type 0 where
+  pub world : PlainWorld
+  pub machines : List PlainMachine
+  pub faults : ℕ
+
+-- The schedule leads to a run that stands so.
+pub record StandsSo (p : List (PlainItem ℕ)) (schedule : List Item) (s : RunState) : Type 0 where
+  pub run : Run
+  pub leads : stands (text_of p) schedule ≡ Some run
+  pub world : run.world ≡ s.world
+  pub terms : run.terms ≡ map (machine_term p) s.machines
+  pub faults : fault_count (text_of p) schedule ≡ s.faults
+
+-- No two of these states are the same. The threads of each stand in the program. A schedule leads to each, and each schedule (of at most so
+-- many items) leads to one of them.
+pub record AreStates (p : List (PlainItem ℕ)) (most : Option ℕ) (states : List RunState) : Type 0 where
+  pub different : (j k : ℕ) (s : RunState) → slice_get states j ≡ Some s → slice_get states k ≡ Some s → j ≡ k
+  pub placed : All (λ s. AreThreadsIn p s.machines) states
+  pub reached : All (λ s. (schedule : List Item) × StandsSo p schedule s) states
+  pub each : (schedule : List Item) (run : Run) → IsWithin most schedule → stands (text_of p) schedule ≡ Some run
+      → (s : RunState) × Contains states s × StandsSo p schedule s
+
+-- There are so many states: all of them, or at least all to which schedules of at most so many items lead.
+abbrev pub CountsStates : List (PlainItem ℕ) → Option ℕ → ℕ → Type 0
+CountsStates p most n = (states : List RunState) × AreStates p most states × (length states ≡ n)

@@ -1,14 +1,15 @@
 //! Every schedule of a program.
 
-ghost use Rattle.std.specs.Prelude.{◌≡◌, ◌<◌, List, IfOk, IsTrue, false, Contains, length, map};
+ghost use Rattle.std.specs.Prelude.{◌≡◌, ◌<◌, List, IfOk, IfSome, IsTrue, false, Contains, length, map};
 ghost use Rattle.std.specs.List.{All};
 ghost use Rattle.cml_schedule.specs.declared.item.Item.{Item};
 ghost use Rattle.cml_search.specs.{Systems.{IsReached}, Searches.{IsSearch, IsSought}};
 ghost use Rattle.cml_step.specs.Calls.{text_of};
-ghost use Rattle.cml_verify.specs.{Cores.{Core, program_system}, Ends.{AreSchedulesTo}, Kept.{core_kept}, Verdicts.{IsShortestEnd, IsWithin, EveryEndIsTold}};
+ghost use Rattle.cml_verify.specs.{Cores.{Core, program_system}, Ends.{AreSchedulesTo}, Kept.{core_kept}, Placed.{AreThreadsIn}, Verdicts.{IsShortestEnd, IsWithin, EveryEndIsTold, CountsStates}};
 
 use crate::ends::first_ends;
 use crate::kept::Kept;
+use crate::placed::are_placed;
 use crate::schedules::Schedules;
 use cml_check::Prog;
 use cml_hub::Item;
@@ -20,7 +21,7 @@ use std::alloc::Global;
 pub struct Verdict {
     /// A shortest schedule to each end: to each world in which nothing is left to do, with as many faults.
     pub ends: Vec<Vec<Item>>,
-    /// How many states were kept.
+    /// How many states were found, no two of them the same.
     pub states: usize,
     /// Nothing, if every schedule was examined. Else the bound was reached, and the schedules of at most so many items were examined.
     pub reach: Option<usize>,
@@ -53,13 +54,33 @@ fn reach_of(system: &Schedules, found: &Found<Kept, Item>) -> Option<usize>
     requires any { found.now.quietly ≡ false }
     requires stopped { found.now.whole ≡ false → found.now.followed < length found.now.kept.keys }
     requires all { IsTrue found.now.whole → (c : Core) → IsReached (program_system (text_of system.now.program)) c → Contains (map (core_kept system.now.program) found.now.kept.keys) c }
-    ensures { (items : List Item) (c : Core) → IsWithin result items → IsSought (program_system (text_of system.now.program)) false items c
+    ensures all { (items : List Item) (c : Core) → IsWithin result items → IsSought (program_system (text_of system.now.program)) false items c
         → Contains (map (core_kept system.now.program) found.now.kept.keys) c }
+    ensures stopped { IfSome result (λ most. found.now.whole ≡ false) }
 {
     if found.is_whole() {
         return None;
     }
     Some(reach(system, found))
+}
+
+// Whether the machines of all that is kept stand in the program.
+fn all_placed(program: &Prog, kept: &[Kept]) -> bool
+    ensures { IsTrue result → All (λ one. AreThreadsIn program.now one.machines) kept.now }
+{
+    for one in kept {
+        if !are_placed(program, one.machines()) {
+            return false;
+        }
+    }
+    true
+}
+
+// How many states were found.
+fn count_of(found: &Found<Kept, Item>) -> usize
+    ensures { result ≡ length found.now.kept.keys }
+{
+    found.kept().len()
 }
 
 /// Examines every schedule of the program, up to so many states.
@@ -70,15 +91,20 @@ pub fn verify(alloc: Global, program: &Prog, bound: usize) -> Result<Verdict, Ga
     requires { 0 < bound }
     ensures each { IfOk result (λ v. All (IsShortestEnd (text_of program.now)) (map (λ schedule. schedule.items) v.ends.items)) }
     ensures all { IfOk result (λ v. EveryEndIsTold (text_of program.now) v.reach (map (λ schedule. schedule.items) v.ends.items)) }
+    ensures bound { IfOk result (λ v. IfSome v.reach (λ most. bound < v.states)) }
+    ensures states { IfOk result (λ v. CountsStates program.now v.reach v.states) }
 {
     let again = program.copy()?;
     let system = Schedules { program: again };
     let found = all_states(alloc, &system, bound)?;
     let kept = found.kept();
+    if !all_placed(program, kept) {
+        return Err(Gap::Unkept);
+    }
     let places = first_ends(alloc, kept)?;
     let told = places.as_slice();
     let ends = schedules_to(alloc, &system, &found, told)?;
-    let states = kept.len();
+    let states = count_of(&found);
     let reach = reach_of(&system, &found);
     Ok(Verdict {
         ends,

@@ -3,7 +3,7 @@
 ghost use Rattle.std.specs.Prelude.{◌≡◌, ◌≤◌, ◌↔◌, IfOk, IsTrue, Some, length, slice_get};
 ghost use Rattle.std.specs.Hash as fed;
 ghost use Rattle.cml_hub.specs.Runs.{terminal};
-ghost use Rattle.cml_verify.specs.{Sameness.{is_same, is_same_equivalence, is_same_partly, is_same_says}, Kept.{PlainKept, state_code, KeepsCourse}, Ends.{SameEnd}};
+ghost use Rattle.cml_verify.specs.{Sameness.{is_same, is_same_equivalence, is_same_partly, is_same_says}, Digests.{digest_at}, Kept.{PlainKept, state_code, KeepsCourse}, Ends.{SameEnd}};
 ghost use Rattle.std.proofs.Common.{ap};
 
 use crate::digest::digest_of;
@@ -18,8 +18,8 @@ use std::alloc::Global;
 use std::hash::{Hash, Hasher};
 use std::marker::Model;
 
-/// What is kept of a state: the world, the machine of each thread by its number, how many threads ended at a fault, and a digest, by
-/// which it is looked up.
+/// What is kept of a state: the world, the machine of each thread by its number, and how many threads ended at a fault. The digest of the
+/// world and the machines, by which it is looked up, stands beside them.
 #[derive(Drop)]
 pub struct Kept {
     digest: u64,
@@ -33,15 +33,15 @@ pub struct Kept {
 impl Model for Kept {
     ghost use Rattle.std.specs.Prelude.{◌≡◌};
     ghost use Rattle.cml_hub.specs.Runs.{terminal};
-    ghost use Rattle.cml_verify.specs.Kept.{PlainKept, state_code};
+    ghost use Rattle.cml_verify.specs.{Digests.{digest_at}, Kept.{PlainKept, state_code}};
 
     ghost Value = { PlainKept };
 
     ghost coded = { state_code };
 
-    ghost view = { λ k. record { digest = k.digest; world = k.world; machines = k.machines.items; faults = k.faults } };
+    ghost view = { λ k. record { world = k.world; machines = k.machines.items; faults = k.faults } };
 
-    ghost invariant = { λ k. k.ends ≡ terminal k.world };
+    ghost invariant = { λ k. (k.ends ≡ terminal k.world) × (k.digest ≡ digest_at k.world k.machines.items) };
 }
 
 impl PartialEq for Kept {
@@ -59,9 +59,9 @@ impl Eq for Kept {
 }
 
 impl Hash for Kept {
-    ghost hash_input = { λ k. fed.u64 k.digest };
+    ghost hash_input = { λ k. fed.u64 (digest_at k.world k.machines) };
 
-    ghost respects_eq = { λ a b e. ap (λ k. fed.u64 k.digest) (is_same_says state_code a b e) };
+    ghost respects_eq = { λ a b e. ap (λ k. fed.u64 (digest_at k.world k.machines)) (is_same_says state_code a b e) };
 
     fn hash<H: Hasher>(&self, state: &mut H) {
         state.write_u64(self.digest);
@@ -74,6 +74,13 @@ impl Kept {
         ensures { result ≡ terminal self.now.world }
     {
         self.ends
+    }
+
+    /// The machine of each thread by its number.
+    pub(crate) fn machines(&self) -> &[Machine]
+        ensures { result.now ≡ self.now.machines }
+    {
+        self.machines.as_slice()
     }
 
     // Whether the two are the same.

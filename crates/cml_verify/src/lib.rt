@@ -6,6 +6,7 @@ mod digest;
 mod ends;
 mod every;
 mod kept;
+mod placed;
 mod read;
 mod same;
 mod schedules;

@@ -9,11 +9,11 @@ use Rattle.cml_ending.proofs.next.next_threads.Goals as goal
 pub loop-t-preserved : goal.loop-t-preserved
 loop-t-preserved c =
     c.in_ok-push.ensures.items
-    ∙ next_more (taker_in c.args.takers.now) c.args.hub.now.course.world.threads c.loop-t.nexts.items c.loop-t.t _
+    ∙ next_more c.args.hub.now.course.world (taker_in c.args.takers.now) c.args.hub.now.course.world.threads c.loop-t.nexts.items c.loop-t.t _
     (omega (arith, ap (λ (w : PlainWorld). length w.threads) c.book.ensures)) c.in_ok-next_thread.ensures
     c.loop-t.invariant
 
 pub returns : goal.returns
-returns c = c.loop-t.invariant ∙ ap (next_threads (taker_in c.args.takers.now))
+returns c = c.loop-t.invariant ∙ ap (next_threads c.args.hub.now.course.world (taker_in c.args.takers.now))
     (take_all c.loop-t.t c.args.hub.now.course.world.threads
     (omega (arith, ap (λ (w : PlainWorld). length w.threads) c.book.ensures)))

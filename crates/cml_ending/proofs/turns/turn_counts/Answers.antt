@@ -1,4 +1,4 @@
-use Rattle.cml_ending.proofs.WordLemmas.{all_counted}
+use Rattle.cml_ending.proofs.TurnLemmas.{all_counted}
 use Rattle.cml_ending.proofs.turns.turn_counts.Goals as goal
 
 pub returns : goal.returns

@@ -1,5 +1,5 @@
 use Rattle.std.proofs.Common.{◌≡◌, ◌<◌, ℕ, length, take, get_or}
-use Rattle.cml_ending.specs.Lines.{turn_count}
+use Rattle.cml_ending.specs.Lefts.{turn_count}
 use Rattle.cml_ending.proofs.turns.turn_counts.Given as goal
 
 -- the turns among the items so far are counted

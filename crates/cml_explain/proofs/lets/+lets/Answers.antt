@@ -1,7 +1,7 @@
 use Rattle.std.proofs.Common.{arith}
 use Rattle.cml_text.specs.Forms.{plain_forms}
-use Rattle.cml_explain.specs.Lets.{lets_among}
-use Rattle.cml_explain.specs.LetViews.{all_declared}
+use Rattle.cml_explain.specs.Names.{lets_among}
+use Rattle.cml_explain.specs.Views.{all_declared}
 use Rattle.cml_check.proofs.ExpressionLemmas.{member-below}
 use Rattle.cml_explain.proofs.LetLemmas.{lets_listed, lets_name, lets_int, lets_text, lets-next, lets-end}
 use Rattle.cml_explain.proofs.lets.+lets.Goals as goal

@@ -1,7 +1,7 @@
 use Rattle.std.proofs.Common.{◌≡◌, ◌++◌, ◌+◌, ◌*◌, drop}
 use Rattle.cml_text.specs.Forms.{plain_forms, nesting, nesting_of}
-use Rattle.cml_explain.specs.Lets.{lets_among}
-use Rattle.cml_explain.specs.LetViews.{all_declared}
+use Rattle.cml_explain.specs.Names.{lets_among}
+use Rattle.cml_explain.specs.Views.{all_declared}
 use Rattle.cml_explain.proofs.lets.+lets.Given as goal
 
 -- what was found, and what is left, is what all are

@@ -1,6 +1,6 @@
 use Rattle.std.proofs.Common.{◌≡◌, map, take}
-use Rattle.cml_explain.specs.Lets.{parameter_declared}
-use Rattle.cml_explain.specs.LetViews.{all_declared}
+use Rattle.cml_explain.specs.Names.{parameter_declared}
+use Rattle.cml_explain.specs.Views.{all_declared}
 use Rattle.cml_explain.proofs.lets.parameters.Given as goal
 
 abbrev pub invariant-loop-form : goal.invariant-loop-form

@@ -1,5 +1,5 @@
 use Rattle.std.proofs.Common.{◌≡◌, ◌≤◌, length, drop}
-use Rattle.cml_explain.specs.Nearest.{past_common}
+use Rattle.cml_explain.specs.Names.{past_common}
 use Rattle.cml_explain.proofs.near.past_common.Given as goal
 
 -- what is left of both so far goes on as the whole names do

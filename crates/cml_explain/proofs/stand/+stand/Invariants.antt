@@ -6,7 +6,7 @@ use Rattle.cml_explain.proofs.stand.+stand.Given as goal
 -- what is left, from the part of this number on, is what all are
 abbrev pub invariant-stand_among-loop-k : goal.invariant-stand_among-loop-k
 invariant-stand_among-loop-k l =
-    stand_among l.at l.role l.layout l.given l.k (plain_forms (drop l.k l.forms)) ≡ stand_among l.at l.role l.layout l.given 0 (plain_forms l.forms)
+    stand_among l.at l.role l.word l.given l.k (plain_forms (drop l.k l.forms)) ≡ stand_among l.at l.role l.word l.given 0 (plain_forms l.forms)
 
 abbrev pub decreases-stand_in : goal.decreases-stand_in
 decreases-stand_in l = 2 * nesting l.form.now

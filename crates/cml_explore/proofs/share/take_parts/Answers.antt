@@ -7,5 +7,5 @@ pub taking-preserved : goal.taking-preserved
 taking-preserved c =
     subst (ArePartsTaken c.args.program.now c.args.asked.now c.args.round c.args.count) (sym c.in_ok-push.ensures.items)
     (taken_more c.args.program.now c.args.asked.now c.args.round c.args.count c.taking.taken.items
-    c.fetch_add-number.result c.make_part_of-part.result c.taking.invariant (omega arith)
-    c.make_part_of-part.ensures)
+    c.fetch_add-number.result c.in_ok-part.part c.taking.invariant (omega arith)
+    c.in_ok-part.ensures)

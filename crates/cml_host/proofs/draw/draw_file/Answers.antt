@@ -1,26 +1,33 @@
-use Rattle.std.proofs.Common.{rules, List, ℕ, subst}
-use Rattle.cml_stream.specs.Streams.{counted_stream}
-use Rattle.cml_host.specs.Closed.{plain_subject}
-use Rattle.cml_host.specs.Drawn.{TextDrawn}
-use Rattle.cml_host.proofs.DrawnLemmas.{whole_drawn}
-use Rattle.cml_host.proofs.OpeningLemmas.{both_ran, both_refused}
+use Rattle.std.proofs.Common.{rules, ◌≡◌, Err, List, inl, inr, subst}
+use Rattle.std.proofs.lemmas.Result.{IfOk-weaker}
+use Rattle.cml_check.specs.Syntax.{PlainItem}
+use Rattle.cml_host.specs.Drawn.{IsPlanDrawn, IsPlanUndrawn, IsUndrawn}
+use Rattle.cml_host.specs.Plans.{AreNotBoth}
+use Rattle.cml_host.proofs.RefusedLemmas.{err_as, wrong_on}
 use Rattle.cml_host.proofs.draw.draw_file.Goals as goal
 
-pub returns-in-Ok-clause-ran : goal.returns-in-Ok-clause-ran
-returns-in-Ok-clause-ran g c =
+pub returns-in_err-both-clause-err : goal.returns-in_err-both-clause-err
+returns-in_err-both-clause-err g c =
     let options = c.args.options.now in
-    let output = counted_stream (g.O.Write.contents c.args.out.now.stream.now) (g.O.Write.contents c.draw_text.new.out.stream.now) c.draw_text.new.out.calls c.draw_text.new.out.failed in
-    let errors = counted_stream (g.E.Write.contents c.args.err.now.stream.now) (g.E.Write.contents c.draw_text.new.err.stream.now) c.draw_text.new.err.calls c.draw_text.new.err.failed in
-    let s = plain_subject c.in-Ok.subject in
-    both_ran (TextDrawn options) options.script.now options.schedule.now (g.S.Store.holds c.args.store.now) c.in-Ok.program s c.in-Ok.text.items output errors c.draw_text.result
-    (λ t q. whole_drawn options t q output errors c.draw_text.result) c.in-Ok.ensures.ok
-    (subst (λ (ts : List ℕ). TextDrawn options s c.in-Ok.program ts output errors c.draw_text.result) c.as_slice.ensures.value c.draw_text.ensures.ran)
+    let held = g.S.Store.holds c.args.store.now in
+    let why = c.in_err-both.field-0.0 in
+    let is : c.from_residual.result ≡ Err why = search rules in
+    wrong_on (AreNotBoth options.script.now options.schedule.now held) (IsUndrawn options held) (λ told status none. inl none) c.from_residual.result why is c.in_err-both.ensures.err
 
-pub returns-in-Err-clause-ran : goal.returns-in-Err-clause-ran
-returns-in-Err-clause-ran g c =
+pub returns-clause-ok : goal.returns-clause-ok
+returns-clause-ok g c =
     let options = c.args.options.now in
-    let output = counted_stream (g.O.Write.contents c.args.out.now.stream.now) (g.O.Write.contents c.args.out.now.stream.now) c.args.out.now.calls c.args.out.now.failed in
-    let errors = counted_stream (g.E.Write.contents c.args.err.now.stream.now) (g.E.Write.contents c.refuse_opening.new.err.stream.now)
-    c.refuse_opening.new.err.calls c.refuse_opening.new.err.failed in
-    both_refused (TextDrawn options) options.script.now options.schedule.now (g.S.Store.holds c.args.store.now) c.in-Err.why output errors c.refuse_opening.result
-    c.in-Err.ensures.err c.refuse_opening.ensures.told (search rules, c.requires.fresh.0, c.requires.fresh.1)
+    let both = c.in_ok-both.both in
+    let are = c.in_ok-both.ensures.ok in
+    IfOk-weaker c.draw_plan.result _ _
+    (λ picture drawn. (are.0, both.plan, are.2, subst (λ (p : List (PlainItem _)). IsPlanDrawn options p both.plan picture.items) are.1 drawn)) c.draw_plan.ensures.ok
+
+pub returns-clause-err : goal.returns-clause-err
+returns-clause-err g c =
+    let options = c.args.options.now in
+    let held = g.S.Store.holds c.args.store.now in
+    let both = c.in_ok-both.both in
+    let are = c.in_ok-both.ensures.ok in
+    err_as (IsPlanUndrawn options both.program both.plan) (IsUndrawn options held)
+    (λ told status none. inr (are.0, both.plan, are.2, subst (λ (p : List (PlainItem _)). IsPlanUndrawn options p both.plan told status) are.1 none))
+    c.draw_plan.result c.draw_plan.ensures.err

@@ -1,14 +1,5 @@
-use Rattle.std.proofs.Common.{List, ℕ, inl, subst}
-use Rattle.cml_stream.specs.Streams.{counted_stream}
-use Rattle.cml_host.specs.Written.{TextOutcome}
+use Rattle.std.proofs.Common.{inl}
 use Rattle.cml_host.proofs.explain.tell_end.Goals as goal
 
 pub returns-in-Ok-clause-told : goal.returns-in-Ok-clause-told
-returns-in-Ok-clause-told g c =
-    let output = counted_stream (g.O.Write.contents c.args.out.now.stream.now) (g.O.Write.contents c.send_text.new.out.stream.now) c.send_text.new.out.calls c.send_text.new.out.failed in
-    let errors = counted_stream (g.E.Write.contents c.args.err.now.stream.now) (g.E.Write.contents c.send_text.new.err.stream.now) c.send_text.new.err.calls c.send_text.new.err.failed in
-    inl (
-      c.in-Ok.words.items,
-      c.in-Ok.ensures,
-      subst (λ (ts : List ℕ). TextOutcome ts output errors c.send_text.result) c.as_slice.ensures.value c.send_text.ensures.ran,
-    )
+returns-in-Ok-clause-told g c = inl (c.as_slice.result.now, c.send_text.ensures.ran)

@@ -1,18 +1,16 @@
 use Rattle.std.proofs.Common.{◌≡◌}
 use Rattle.cml_hub.specs.Kept.{NoneOut}
-use Rattle.cml_narrative.specs.Tellers.{Knows, tale_of}
+use Rattle.cml_narrative.specs.Narrators.{Knows}
 use Rattle.cml_stream.specs.Streams.{stream}
 use Rattle.cml_host.proofs.StoryLemmas.{Goes}
 use Rattle.cml_host.proofs.explain.tell_until.Given as goal
 
--- the items so far have happened and were told, and a first part of their story was written
+-- the items so far have happened, and a first part of their story was written
 abbrev pub invariant-loop-count : goal.invariant-loop-count
 invariant-loop-count g l = record {
   none_out : NoneOut l.hub;
   knows : Knows l.hub.course l.narrator;
-  tale : tale_of l.narrator ≡ tale_of l.fn.narrator;
-  goes : Goes l.options (tale_of l.fn.narrator) l.fn.hub l.items l.count l.hub l.piece.items
-      (stream (g.O.Write.contents l.fn.out.stream.now) (g.O.Write.contents l.out.stream.now));
+  goes : Goes l.fn.hub l.items l.count l.hub (stream (g.O.Write.contents l.fn.out.stream.now) (g.O.Write.contents l.out.stream.now));
   fine : l.out.failed ≡ 0;
   same : l.out.stream.ghost_name ≡ l.fn.out.stream.ghost_name;
 }

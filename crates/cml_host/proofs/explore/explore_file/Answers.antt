@@ -1,8 +1,9 @@
 use Rattle.std.proofs.Common.{rules, inl, inr, true}
 use Rattle.cml_stream.specs.Streams.{counted_stream}
 use Rattle.cml_host.specs.Scripts.{plain_script}
-use Rattle.cml_host.proofs.ExploringLemmas.{explored_behind}
-use Rattle.cml_host.proofs.RanLemmas.{not_scripted}
+use Rattle.cml_host.specs.Exploring.{ScriptExplored}
+use Rattle.cml_host.proofs.ClosedLemmas.{store_behind}
+use Rattle.cml_host.proofs.RefusedLemmas.{refused_by}
 use Rattle.cml_host.proofs.explore.explore_file.Goals as goal
 
 pub returns-in-Ok-clause-ran : goal.returns-in-Ok-clause-ran
@@ -15,13 +16,13 @@ returns-in-Ok-clause-ran g c =
     inl (
       s,
       c.in-Ok.ensures.ok,
-      explored_behind c.args.options.now c.args.terminal s output errors (g.S.Store.holds c.args.store.now) (g.S.Store.holds c.open_script.new.store)
-          (g.S.Store.holds c.explore_opened.new.store) c.explore_opened.result c.open_script.ensures.same c.explore_opened.ensures.ran,
+      store_behind (λ store. ScriptExplored c.args.options.now c.args.terminal s output errors store c.explore_opened.result) (g.S.Store.holds c.args.store.now) (g.S.Store.holds c.open_script.new.store)
+          (g.S.Store.holds c.explore_opened.new.store) c.open_script.ensures.same c.explore_opened.ensures.ran,
     )
 
 pub returns-in-Err-clause-ran : goal.returns-in-Err-clause-ran
 returns-in-Err-clause-ran g c =
     inr (
-      not_scripted true _ c.args.options.now.script.now c.in-Err.why _ c.refuse.result c.in-Err.ensures.err c.refuse.ensures.refused,
+      refused_by _ c.in-Err.why _ c.refuse.result c.in-Err.ensures.err c.refuse.ensures.refused,
       ((search rules, c.requires.fresh.0, c.requires.fresh.1), c.open_script.ensures.same),
     )

@@ -1,5 +1,4 @@
 use Rattle.std.proofs.Common.{rules, ◌≡◌, None, option_map, refl}
-use Rattle.cml_stream.specs.Streams.{counted_stream}
 use Rattle.cml_host.specs.Stores.{Shelf}
 use Rattle.cml_host.proofs.ExploringLemmas.{none_kept}
 use Rattle.cml_host.proofs.explore.keep_files.Goals as goal
@@ -9,5 +8,5 @@ returns-in-None-clause-kept g c =
     let a = g.E.Write.contents c.args.err.now.stream.now in
     let store : Shelf = record { before = g.S.Store.holds c.args.store.now; after = g.S.Store.holds c.args.store.now } in
     let none : option_map (λ start. start.now) c.args.start ≡ None = search rules in
-    none_kept _ c.args.budget c.args.program.now c.args.made.now (counted_stream a a c.args.err.now.calls c.args.err.now.failed) store c.judge.result none (λ name. refl) (search rules)
+    none_kept _ c.args.budget c.args.program.now c.args.made.now a c.args.err.now.calls c.args.err.now.failed store c.judge.result none (λ name. refl)
     c.requires.fresh c.judge.ensures

@@ -1,8 +1,8 @@
-use Rattle.std.proofs.Common.{rules, List, inl, subst}
+use Rattle.std.proofs.Common.{List, false, inl, subst}
 use Rattle.cml_explore.specs.Classes.{PlainClass}
 use Rattle.cml_host.specs.Exploring.{AreSaved, SomeSaved, files_from}
 use Rattle.cml_host.specs.Stores.{Shelf}
-use Rattle.cml_host.proofs.ExploringLemmas.{kept_not}
+use Rattle.cml_host.proofs.ExploringLemmas.{kept_not, shows_none}
 use Rattle.cml_host.proofs.explore.keep_ranked.Goals as goal
 
 pub returns-in-Ok-clause-kept : goal.returns-in-Ok-clause-kept
@@ -10,7 +10,7 @@ returns-in-Ok-clause-kept g c =
     inl (
       subst (λ (cs : List PlainClass). AreSaved (files_from c.args.start.now c.args.budget c.args.program.now cs 1 c.args.numbers.now)
           (g.S.Store.holds c.args.store.now) (g.S.Store.holds c.save_classes.new.store)) c.classes.ensures c.in-Ok.ensures.ok,
-      search rules,
+      shows_none false (g.E.Write.contents c.args.err.now.stream.now),
       c.requires.fresh,
       c.judge.ensures,
     )

@@ -1,40 +1,58 @@
-use Rattle.std.proofs.Common.{rules, ◌≡◌, ◌∙◌, Bool, Err, false, subst, arith}
+use Rattle.std.proofs.Common.{rules, ◌≡◌, ◌∙◌, Bool, Err, false, true, subst, arith}
 use Rattle.cml_explore.specs.Explored.{HasMade}
-use Rattle.cml_host.proofs.ExploringLemmas.{shown_on, stops_next}
-use Rattle.cml_host.proofs.StoryLemmas.{if_err}
+use Rattle.cml_host.specs.declared.explain.Halt.TheVariants.{Memory}
+use Rattle.cml_host.proofs.ExploringLemmas.{shows_none, shows_on}
+use Rattle.cml_host.proofs.WriteLemmas.{if_err}
 use Rattle.cml_host.proofs.explore.make_runs.Goals as goal
+
+pub runs-init : goal.runs-init
+runs-init g c =
+    record {
+      so_far = c.new-made.ensures.begins c.args.program.now c.args.asked.now;
+      few = omega (arith, c.new-made.ensures.none);
+      shows = shows_none c.args.shows (g.E.Write.contents c.args.err.now.stream.now);
+      fine = c.requires.fresh;
+      same = search rules;
+    }
 
 pub returns-in_err-last-clause-err : goal.returns-in_err-last-clause-err
 returns-in_err-last-clause-err g c =
-    let a = g.E.Write.contents c.args.err.now.stream.now in
-    let b = g.E.Write.contents c.runs.err.stream.now in
-    let d = g.E.Write.contents c.make_some.new.err.stream.now in
-    let is : c.from_residual.result ≡ Err c.in_err-last.field-0.0 = search rules in
-    if_err c.from_residual.result c.in_err-last.field-0.0 _ is (
-    stops_next c.in_err-last.field-0.0 c.args.shows c.args.asked.now.runs c.runs.made.runs a b d c.make_some.new.err.calls c.make_some.new.err.failed
-    c.runs.invariant.takes c.in_err-last.ensures.err
+    let is : c.from_residual.result ≡ Err Memory = search rules in
+    if_err c.from_residual.result Memory _ is (c.runs.invariant.shows, c.runs.invariant.fine)
+
+pub returns-in_err-show_round-clause-err : goal.returns-in_err-show_round-clause-err
+returns-in_err-show_round-clause-err g c =
+    let why = c.in_err-show_round.field-0.0 in
+    let is : c.from_residual-in_err-show_round.result ≡ Err why = search rules in
+    if_err c.from_residual-in_err-show_round.result why _ is (
+      shows_on c.args.shows (g.E.Write.contents c.args.err.now.stream.now) (g.E.Write.contents c.runs.err.stream.now) (g.E.Write.contents c.show_round.new.err.stream.now)
+          c.runs.invariant.shows c.in_err-show_round.ensures.err.0,
+      c.in_err-show_round.ensures.err.1,
     )
 
+pub returns-then-last-clause-made : goal.returns-then-last-clause-made
+returns-then-last-clause-made g c =
+    subst (λ (b : Bool). HasMade c.args.program.now c.args.asked.now b c.go_on.new.made) c.if-last.true c.in_ok-last.ensures.goes
+
 pub returns-then-last-clause-ok : goal.returns-then-last-clause-ok
-returns-then-last-clause-ok g c =
-    let one = c.in_ok-last.ensures.ok in
-    record {
-      explored = subst (λ (b : Bool). HasMade c.args.program.now c.args.asked.now b c.make_some.new.made) c.if-last.true one.made;
-      takes = shown_on c.args.shows c.args.asked.now.runs c.runs.made.runs c.make_some.new.made.runs (g.E.Write.contents c.args.err.now.stream.now)
-          (g.E.Write.contents c.runs.err.stream.now) (g.E.Write.contents c.make_some.new.err.stream.now) c.runs.invariant.takes one.shown;
-      fine = one.fine;
-    }
+returns-then-last-clause-ok g c = (
+  shows_on c.args.shows (g.E.Write.contents c.args.err.now.stream.now) (g.E.Write.contents c.runs.err.stream.now) (g.E.Write.contents c.show_round.new.err.stream.now)
+      c.runs.invariant.shows c.in_ok-show_round.ensures.ok.0,
+  c.in_ok-show_round.ensures.ok.1,
+)
 
 pub runs-preserved : goal.runs-preserved
 runs-preserved g c =
-    let one = c.in_ok-last.ensures.ok in
-    let more : HasMade c.args.program.now c.args.asked.now false c.make_some.new.made =
-    subst (λ (b : Bool). HasMade c.args.program.now c.args.asked.now b c.make_some.new.made) c.if-last.false one.made in
+    let more : HasMade c.args.program.now c.args.asked.now false c.go_on.new.made =
+    subst (λ (b : Bool). HasMade c.args.program.now c.args.asked.now b c.go_on.new.made) c.if-last.false c.in_ok-last.ensures.goes in
     record {
       so_far = more.0;
       few = omega (arith, more.1);
-      takes = shown_on c.args.shows c.args.asked.now.runs c.runs.made.runs c.make_some.new.made.runs (g.E.Write.contents c.args.err.now.stream.now)
-          (g.E.Write.contents c.runs.err.stream.now) (g.E.Write.contents c.make_some.new.err.stream.now) c.runs.invariant.takes one.shown;
-      fine = one.fine;
-      same = c.in_ok-last.ensures.same_err ∙ c.runs.invariant.same;
+      shows = shows_on c.args.shows (g.E.Write.contents c.args.err.now.stream.now) (g.E.Write.contents c.runs.err.stream.now) (g.E.Write.contents c.show_round.new.err.stream.now)
+          c.runs.invariant.shows c.in_ok-show_round.ensures.ok.0;
+      fine = c.in_ok-show_round.ensures.ok.1;
+      same = c.in_ok-show_round.ensures.same_err ∙ c.runs.invariant.same;
     }
+
+pub returns-clause-ok : goal.returns-clause-ok
+returns-clause-ok g c = (c.runs.invariant.shows, c.runs.invariant.fine)

@@ -1,7 +1,7 @@
 use Rattle.std.proofs.Common.{◌≡◌, ◌≤◌, ◌-◌}
 use Rattle.cml_explore.specs.Explored.{SoFar}
-use Rattle.cml_stream.specs.Streams.{stream, Takes}
-use Rattle.cml_host.specs.Exploring.{shown_so_far}
+use Rattle.cml_stream.specs.Streams.{stream}
+use Rattle.cml_host.specs.Exploring.{ShowsMarks}
 use Rattle.cml_host.proofs.explore.make_runs.Given as goal
 
 -- the runs so far were made and shown
@@ -9,7 +9,7 @@ abbrev pub invariant-runs : goal.invariant-runs
 invariant-runs g l = record {
   so_far : SoFar l.program l.asked l.made;
   few : l.made.runs ≤ l.asked.runs;
-  takes : Takes (stream (g.E.Write.contents l.fn.err.stream.now) (g.E.Write.contents l.err.stream.now)) (shown_so_far l.shows l.asked.runs l.made.runs);
+  shows : ShowsMarks l.shows (stream (g.E.Write.contents l.fn.err.stream.now) (g.E.Write.contents l.err.stream.now));
   fine : l.err.failed ≡ 0;
   same : l.err.stream.ghost_name ≡ l.fn.err.stream.ghost_name;
 }

@@ -1,7 +1,7 @@
 use Rattle.std.proofs.Common.{rules, ◌≡◌, ◌<◌, Err, arith, length, refl}
 use Rattle.cml_explore.specs.ClassViews.{plain_class}
 use Rattle.cml_host.proofs.ExploringLemmas.{saved_next, some_saved}
-use Rattle.cml_host.proofs.StoryLemmas.{if_err}
+use Rattle.cml_host.proofs.WriteLemmas.{if_err}
 use Rattle.cml_host.proofs.explore.save_classes.Goals as goal
 
 pub loop-index-init : goal.loop-index-init

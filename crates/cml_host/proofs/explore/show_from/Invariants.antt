@@ -1,12 +1,12 @@
 use Rattle.std.proofs.Common.{◌≡◌}
 use Rattle.cml_stream.specs.Streams.{stream}
-use Rattle.cml_host.specs.Exploring.{ShownFrom}
+use Rattle.cml_host.specs.Narrated.{Writes}
 use Rattle.cml_host.proofs.explore.show_from.Given as goal
 
 -- the runs so far were shown
 abbrev pub invariant-loop-made : goal.invariant-loop-made
 invariant-loop-made g l = record {
-  shown : ShownFrom l.shows l.runs l.before l.made (stream (g.E.Write.contents l.fn.err.stream.now) (g.E.Write.contents l.err.stream.now));
+  wrote : Writes (stream (g.E.Write.contents l.fn.err.stream.now) (g.E.Write.contents l.err.stream.now));
   fine : l.err.failed ≡ 0;
   same : l.err.stream.ghost_name ≡ l.fn.err.stream.ghost_name;
 }

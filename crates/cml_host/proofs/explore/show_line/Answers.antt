@@ -1,18 +1,17 @@
-use Rattle.std.proofs.Common.{rules, ◌≡◌, ◌∙◌, Err, List, ℕ, ap, subst}
-use Rattle.cml_stream.specs.Counts.{counted}
-use Rattle.cml_stream.specs.Streams.{stream, TakesStart}
-use Rattle.cml_host.specs.declared.explain.Halt.TheVariants.{Write}
-use Rattle.cml_host.proofs.SayLemmas.{start_taken}
-use Rattle.cml_host.proofs.StoryLemmas.{if_err}
+use Rattle.std.proofs.Common.{rules, ◌≡◌, Err}
+use Rattle.cml_host.specs.declared.explain.Halt.TheVariants.{Memory, Write}
+use Rattle.cml_host.proofs.WriteLemmas.{if_err, writes_none}
 use Rattle.cml_host.proofs.explore.show_line.Goals as goal
 
-pub returns-in_err-write_out-clause-err : goal.returns-in_err-write_out-clause-err
-returns-in_err-write_out-clause-err g c =
-    let a = g.E.Write.contents c.args.err.now.stream.now in
-    let b = g.E.Write.contents c.write_out.new.out.stream.now in
-    let is : c.from_residual-in_err-write_out.result ≡ Err Write = search rules in
-    if_err c.from_residual-in_err-write_out.result Write _ is (
-      subst (λ (ts : List ℕ). TakesStart (stream a b) ts) (c.as_bytes.ensures.value ∙ c.in_ok-line.ensures)
-          (start_taken (stream a b) c.as_bytes.result.now c.in_err-write_out.ensures.err.0 c.in_err-write_out.ensures.err.1),
-      c.in_err-write_out.ensures.failed ∙ ap counted c.requires.fresh,
-    )
+pub returns-in_err-line-clause-err : goal.returns-in_err-line-clause-err
+returns-in_err-line-clause-err g c =
+    let is : c.from_residual.result ≡ Err Memory = search rules in
+    if_err c.from_residual.result Memory _ is (writes_none (g.E.Write.contents c.args.err.now.stream.now), c.requires.fresh)
+
+pub returns-in_err-write_words-clause-err : goal.returns-in_err-write_words-clause-err
+returns-in_err-write_words-clause-err g c =
+    let is : c.from_residual-in_err-write_words.result ≡ Err Write = search rules in
+    if_err c.from_residual-in_err-write_words.result Write _ is (c.write_words.ensures.wrote, c.in_err-write_words.ensures.failed)
+
+pub returns-clause-ok : goal.returns-clause-ok
+returns-clause-ok g c = (c.write_words.ensures.wrote, c.in_ok-write_words.ensures.fine)

@@ -1,6 +1,6 @@
 use Rattle.std.proofs.Common.{ℕ, length}
 use Rattle.cml_text.specs.Lines.{lines}
-use Rattle.cml_host.specs.Replaying.{IsLineBehind}
+use Rattle.cml_host.specs.Plans.{IsLineBehind}
 use Rattle.cml_host.proofs.item.item_line.Given as goal
 
 -- the line that is sought among those that are left is the one that is sought among all

@@ -4,7 +4,6 @@ use Rattle.cml_hub.specs.Courses.{run_of}
 use Rattle.cml_hub.specs.Runs.{stands}
 use Rattle.cml_schedule.specs.declared.item.Item.{Item}
 use Rattle.cml_step.specs.Calls.{text_of}
-use Rattle.cml_host.specs.Closed.{plain_subject}
 use Rattle.cml_host.proofs.PictureLemmas.{leads_again, opens_itself, run_drawn}
 use Rattle.cml_host.proofs.picture.draw_run.Goals as goal
 
@@ -19,5 +18,5 @@ draw_all-drawn-requires-clause-leads c =
 pub returns : goal.returns
 returns c =
     IfOk-weaker c.draw_all-drawn.result _ _
-    (λ drawn all. run_drawn (plain_subject c.args.subject.now) c.args.hub.now c.in_ok-again.again c.draw_all-drawn.new.hub.course c.schedule.result.now
+    (λ drawn all. run_drawn c.args.hub.now c.in_ok-again.again c.schedule.result.now
     (option_map (λ bytes. bytes.items) drawn) c.schedule.ensures.items c.in_ok-again.ensures all) c.draw_all-drawn.ensures

@@ -1,7 +1,7 @@
 use Rattle.std.proofs.Common.{inl, inr}
 use Rattle.cml_stream.specs.Streams.{counted_stream}
-use Rattle.cml_host.specs.Closed.{plain_asked, plain_closing}
-use Rattle.cml_host.proofs.RanLemmas.{closed_hub}
+use Rattle.cml_host.specs.Closed.{plain_asked}
+use Rattle.cml_host.proofs.ClosedLemmas.{closed_hub}
 use Rattle.cml_host.proofs.replay.tell_run.Goals as goal
 
 pub returns-in-Ok-tell-clause-told : goal.returns-in-Ok-tell-clause-told
@@ -13,7 +13,7 @@ returns-in-Ok-tell-clause-told g c =
     let h = c.args.hub.now in (
       c.hub_is_a_run.ensures,
       inl (
-          closed_hub (plain_asked c.args.asked.now) h (plain_closing c.in-Ok.closing) h.reports output a b d
+          closed_hub (plain_asked c.args.asked.now) h c.in-Ok.closing h.reports output a b d
           c.tell.new.err.calls c.tell.new.err.failed c.say_end.new.err.calls c.say_end.new.err.failed c.say_end.result
           c.in-Ok.ensures c.in-Ok-tell.ensures.told c.say_end.ensures.said c.say_end.ensures.status
           ),

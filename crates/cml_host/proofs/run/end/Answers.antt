@@ -1,7 +1,7 @@
-use Rattle.std.proofs.Common.{◌⊎◌, Bool, List, ℕ, [], inr, refl, subst}
+use Rattle.std.proofs.Common.{◌⊎◌, ◌∙◌, Bool, List, ℕ, [], inr, refl, subst}
 use Rattle.cml_stream.specs.Streams.{counted_stream}
-use Rattle.cml_host.specs.Closed.{plain_asked, plain_closing}
-use Rattle.cml_host.specs.Running.{IsNotEnded, PictureKept, plain_saving}
+use Rattle.cml_host.specs.Closed.{plain_asked}
+use Rattle.cml_host.specs.Running.{IsNotEnded, plain_saving}
 use Rattle.cml_host.specs.Stores.{Shelf}
 use Rattle.cml_host.specs.Told.{MemoryBroke, OutputBroke}
 use Rattle.cml_host.proofs.PictureLemmas.{sayable}
@@ -18,16 +18,11 @@ returns-in-Ok-tell_and_save-clause-ran g c =
     let d = g.E.Write.contents c.close_with.new.err.stream.now in
     let output = counted_stream (g.O.Write.contents c.args.out.now.stream.now) (g.O.Write.contents c.tell_and_save.new.out.stream.now)
     c.tell_and_save.new.out.calls c.tell_and_save.new.out.failed in
-    let old = g.S.Store.holds c.args.store.now in
-    let mid = g.S.Store.holds c.tell_and_save.new.store in
-    let new = g.S.Store.holds c.close_with.new.store in
-    let last : Shelf = record { before = mid; after = new } in
     let saving = plain_saving c.args.saving.now in
-    kept_ran (plain_asked c.args.asked.now) saving.schedule saving.picture c.args.hub.now (plain_closing c.in-Ok.closing) c.in-Ok.picture output a b d
-    c.tell_and_save.new.err.calls c.tell_and_save.new.err.failed c.close_with.new.err.calls c.close_with.new.err.failed old mid new c.close_with.result
-    c.in-Ok.ensures.closing c.in-Ok.ensures.picture c.in-Ok-tell_and_save.ensures.ended
-    (subst (λ (e : Bool). PictureKept e c.in-Ok.picture (plain_closing c.in-Ok.closing) (counted_stream b d c.close_with.new.err.calls c.close_with.new.err.failed) last c.close_with.result)
-    c.explains-is_explained.ensures c.close_with.ensures.kept)
+    kept_ran (plain_asked c.args.asked.now) saving.schedule saving.picture c.args.hub.now c.in-Ok.closing c.in-Ok.picture output a b d
+    c.tell_and_save.new.err.calls c.tell_and_save.new.err.failed c.close_with.new.err.calls c.close_with.new.err.failed
+    (g.S.Store.holds c.args.store.now) (g.S.Store.holds c.tell_and_save.new.store) (g.S.Store.holds c.close_with.new.store) c.close_with.result
+    c.in-Ok.ensures.closing c.in-Ok.ensures.picture c.in-Ok-tell_and_save.ensures.ended c.close_with.ensures.kept
 
 pub returns-in_default-clause-ran : goal.returns-in_default-clause-ran
 returns-in_default-clause-ran g c =
@@ -48,5 +43,5 @@ returns-clause-ran g c =
     let store : Shelf = record { before = g.S.Store.holds c.args.store.now; after = g.S.Store.holds c.tell_and_save.new.store } in
     let saving = plain_saving c.args.saving.now in
     not_ended_ran (plain_asked c.args.asked.now) saving c.args.hub.now output errors store c.in-Err.status
-    (subst (λ (e : Bool). IsNotEnded e saving.schedule c.args.hub.now output errors store c.in-Err.status) c.explains-is_explained.ensures
+    (subst (λ (e : Bool). IsNotEnded e saving.schedule c.args.hub.now output errors store c.in-Err.status) (c.is_some-explains.ensures ∙ c.in-Ok.ensures.closing.words)
     c.in-Err.ensures.not_ended)

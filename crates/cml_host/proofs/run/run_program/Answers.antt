@@ -1,10 +1,10 @@
-use Rattle.std.proofs.Common.{List, ℕ, inl, subst}
+use Rattle.std.proofs.Common.{List, ℕ, inl, inr, refl, rules, subst}
 use Rattle.cml_check.specs.Syntax.{PlainItem}
 use Rattle.cml_stream.specs.Streams.{counted_stream}
 use Rattle.cml_host.specs.Closed.{plain_asked}
 use Rattle.cml_host.specs.Running.{ProgramOutcome, plain_saving}
 use Rattle.cml_host.specs.Stores.{Shelf}
-use Rattle.cml_host.proofs.RanLemmas.{starts_itself}
+use Rattle.cml_host.proofs.ClosedLemmas.{starts_itself}
 use Rattle.cml_host.proofs.run.run_program.Goals as goal
 
 pub run_begun-requires-clause-begun : goal.run_begun-requires-clause-begun
@@ -18,3 +18,6 @@ returns-in-Ok-clause-ran g c =
     inl (subst (λ (p : List (PlainItem ℕ)). ProgramOutcome (plain_asked c.args.asked.now)
     (plain_saving c.args.saving.now) p c.args.options.now output errors store c.run_begun.result)
     c.in-Ok.ensures.ok.program c.run_begun.ensures.ran)
+
+pub returns-in-Err-clause-ran : goal.returns-in-Err-clause-ran
+returns-in-Err-clause-ran g c = inr (c.refuse.ensures.refused, ((search rules, c.requires.fresh.0, c.requires.fresh.1), λ name. refl))

@@ -1,12 +1,14 @@
-use Rattle.std.proofs.Common.{◌≡◌, ◌∙◌, Bor, List, ℕ, None, ap, map, subst}
+use Rattle.std.proofs.Common.{◌≡◌, ◌∙◌, Bor, List, ℕ, None, ap, inr, is_some, map, refl, rules, subst}
 use Rattle.cml_stream.specs.Streams.{counted_stream}
-use Rattle.cml_host.specs.Closed.{drawn_subject, plain_asked}
+use Rattle.cml_host.specs.Closed.{plain_asked}
 use Rattle.cml_host.specs.Running.{plain_saving}
 use Rattle.cml_host.specs.Scripts.{plain_script}
-use Rattle.cml_host.specs.Servers.{first_unknown, server_numbers}
+use Rattle.cml_host.specs.Refused.{RefusedBy}
+use Rattle.cml_host.specs.Servers.{IsNoFunction, first_unknown, server_numbers}
 use Rattle.cml_host.specs.Stores.{Shelf}
 use Rattle.cml_host.proofs.PictureLemmas.{saving_asked}
 use Rattle.cml_host.proofs.RanLemmas.{opened_ran}
+use Rattle.cml_host.proofs.RefusedLemmas.{refused_by}
 use Rattle.cml_host.proofs.run.run_script.Goals as goal
 
 pub returns-in-Ok-clause-ran : goal.returns-in-Ok-clause-ran
@@ -21,5 +23,15 @@ returns-in-Ok-clause-ran g c =
     (c.in-Ok.ensures.found ∙ ap (λ (ns : List (Bor (List ℕ))). server_numbers s (map (λ name. name.now) ns)) c.as_slice.ensures.value)
     c.ask-program.ensures.program c.ask-program.ensures.asked
     (c.saving_for-saving.ensures
-    ∙ saving_asked c.args.options.now c.args.explains c.is_some-draws.result s (drawn_subject c.ask-program.result.1) c.is_some-draws.ensures c.ask-program.ensures.kept)
+    ∙ saving_asked c.args.options.now c.args.explains c.is_some-draws.result (is_some c.ask-program.result.1.subject) c.is_some-draws.ensures c.ask-program.ensures.kept)
     c.run_program.ensures.ran
+
+pub returns-in-Err-clause-ran : goal.returns-in-Err-clause-ran
+returns-in-Err-clause-ran g c =
+    let s = plain_script c.args.script in
+    inr (
+      subst (λ (ns : List (Bor (List ℕ))). RefusedBy (IsNoFunction s (map (λ name. name.now) ns))
+          (counted_stream (g.E.Write.contents c.args.err.now.stream.now) (g.E.Write.contents c.refuse.new.err.stream.now) c.refuse.new.err.calls c.refuse.new.err.failed) c.refuse.result)
+          c.as_slice.ensures.value (refused_by (IsNoFunction s (map (λ name. name.now) c.as_slice.result.now)) c.in-Err.why _ c.refuse.result c.in-Err.ensures.err c.refuse.ensures.refused),
+      ((search rules, c.requires.fresh.0, c.requires.fresh.1), λ name. refl),
+    )

@@ -1,6 +1,8 @@
-use Rattle.cml_host.proofs.SayLemmas.{on_err, start_taken}
+use Rattle.cml_host.proofs.WriteLemmas.{writes_kept}
 use Rattle.cml_host.proofs.step.send.Goals as goal
 
-pub returns-in_err-write_out-clause-err : goal.returns-in_err-write_out-clause-err
-returns-in_err-write_out-clause-err g c =
-    on_err c.from_residual.result _ (start_taken _ c.args.text.now c.in_err-write_out.ensures.err.0 c.in_err-write_out.ensures.err.1)
+pub returns-in-Ok-clause-wrote : goal.returns-in-Ok-clause-wrote
+returns-in-Ok-clause-wrote g c = writes_kept _ _ _ c.write_words.ensures.wrote c.flush.ensures.bytes
+
+pub returns-in-Err-clause-wrote : goal.returns-in-Err-clause-wrote
+returns-in-Err-clause-wrote g c = writes_kept _ _ _ c.write_words.ensures.wrote c.flush.ensures.bytes

@@ -1,8 +1,9 @@
-use Rattle.std.proofs.Common.{rules, inl, inr, true}
+use Rattle.std.proofs.Common.{rules, inl, inr}
 use Rattle.cml_stream.specs.Streams.{counted_stream}
 use Rattle.cml_host.specs.Scripts.{plain_script}
-use Rattle.cml_host.proofs.RanLemmas.{not_scripted}
-use Rattle.cml_host.proofs.SteppedLemmas.{stepped_behind}
+use Rattle.cml_host.specs.Stepped.{ScriptStepped}
+use Rattle.cml_host.proofs.ClosedLemmas.{store_behind}
+use Rattle.cml_host.proofs.RefusedLemmas.{refused_by}
 use Rattle.cml_host.proofs.step.step_file.Goals as goal
 
 pub returns-in-Ok-clause-ran : goal.returns-in-Ok-clause-ran
@@ -17,14 +18,14 @@ returns-in-Ok-clause-ran g c =
     inl (
       s,
       c.in-Ok.ensures.ok,
-      stepped_behind c.args.options.now s input output errors (g.S.Store.holds c.args.store.now) (g.S.Store.holds c.open_script.new.store)
-          (g.S.Store.holds c.step_script.new.store) c.step_script.result c.open_script.ensures.same c.step_script.ensures.ran,
+      store_behind (λ store. ScriptStepped c.args.options.now s input output errors store c.step_script.result) (g.S.Store.holds c.args.store.now) (g.S.Store.holds c.open_script.new.store)
+          (g.S.Store.holds c.step_script.new.store) c.open_script.ensures.same c.step_script.ensures.ran,
     )
 
 pub returns-in-Err-clause-ran : goal.returns-in-Err-clause-ran
 returns-in-Err-clause-ran g c =
     inr (
-      not_scripted true _ c.args.options.now.script.now c.in-Err.why _ c.refuse.result c.in-Err.ensures.err c.refuse.ensures.refused,
+      refused_by _ c.in-Err.why _ c.refuse.result c.in-Err.ensures.err c.refuse.ensures.refused,
       (search rules, c.requires.given.0, c.requires.given.1),
       (search rules, c.requires.fresh.0, c.requires.fresh.1),
       c.open_script.ensures.same,

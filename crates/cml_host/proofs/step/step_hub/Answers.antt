@@ -1,7 +1,6 @@
 use Rattle.std.proofs.Common.{◌∙◌, List, ℕ, option_map, refl, subst}
 use Rattle.cml_stream.specs.Streams.{counted_stream, Says}
-use Rattle.cml_host.specs.Closed.{plain_subject}
-use Rattle.cml_host.specs.Stepped.{by_hand}
+use Rattle.cml_phrase.specs.Spots.{all_places}
 use Rattle.cml_host.specs.Stores.{Shelf}
 use Rattle.cml_host.proofs.SteppedLemmas.{hub_cut, hub_held}
 use Rattle.cml_host.proofs.step.step_hub.Goals as goal
@@ -12,7 +11,7 @@ returns-in-Ok-clause-stepped g c =
     let output = counted_stream (g.O.Write.contents c.args.out.now.stream.now) (g.O.Write.contents c.hold.new.out.stream.now) c.hold.new.out.calls c.hold.new.out.failed in
     let errors = counted_stream (g.E.Write.contents c.args.err.now.stream.now) (g.E.Write.contents c.save.new.err.stream.now) c.save.new.err.calls c.save.new.err.failed in
     let store : Shelf = record { before = g.S.Store.holds c.args.store.now; after = g.S.Store.holds c.save.new.store } in
-    hub_held (by_hand (plain_subject c.args.subject.now)) (option_map (λ name. name.now) c.args.save_as) c.args.hub.now c.hold.new.hub input output errors store c.save.result
+    hub_held (all_places c.args.subject.now.text.items c.args.subject.now.forms.items) (option_map (λ name. name.now) c.args.save_as) c.args.hub.now c.hold.new.hub input output errors store c.save.result
     c.requires.start.budget_is c.in-Ok.ensures.ok c.in-Ok.ensures.cause.0 c.in-Ok.ensures.cause.1 c.in-Ok.ensures.leads c.save.ensures.saved
 
 pub returns-in-Err-clause-stepped : goal.returns-in-Err-clause-stepped
@@ -21,6 +20,6 @@ returns-in-Err-clause-stepped g c =
     let output = counted_stream (g.O.Write.contents c.args.out.now.stream.now) (g.O.Write.contents c.hold.new.out.stream.now) c.hold.new.out.calls c.hold.new.out.failed in
     let errors = counted_stream (g.E.Write.contents c.args.err.now.stream.now) (g.E.Write.contents c.say.new.err.stream.now) c.say.new.err.calls c.say.new.err.failed in
     let store : Shelf = record { before = g.S.Store.holds c.args.store.now; after = g.S.Store.holds c.args.store.now } in
-    hub_cut (by_hand (plain_subject c.args.subject.now)) c.args.hub.now.course.program (option_map (λ name. name.now) c.args.save_as) c.args.hub.now c.in-Err.why input output errors store
+    hub_cut (all_places c.args.subject.now.text.items c.args.subject.now.forms.items) c.args.hub.now.course.program (option_map (λ name. name.now) c.args.save_as) c.args.hub.now c.in-Err.why input output errors store
     c.fault_status.result c.in-Err.ensures.err c.in-Err.ensures.cause
     (subst (λ (t : List ℕ). Says errors t) (c.as_bytes.ensures.value ∙ c.fault_line.ensures) c.say.ensures.said) c.fault_status.ensures (λ name. refl)

@@ -1,8 +1,7 @@
 use Rattle.cml_stream.specs.Streams.{counted_stream}
-use Rattle.cml_host.specs.Closed.{plain_subject}
 use Rattle.cml_host.specs.Scripts.{plain_script}
 use Rattle.cml_host.specs.Stores.{Shelf}
-use Rattle.cml_host.proofs.RanLemmas.{starts_itself}
+use Rattle.cml_host.proofs.ClosedLemmas.{starts_itself}
 use Rattle.cml_host.proofs.SteppedLemmas.{script_stepped}
 use Rattle.cml_host.proofs.step.step_script.Goals as goal
 
@@ -18,5 +17,6 @@ returns-in-Ok-clause-ran g c =
     let errors = counted_stream (g.E.Write.contents c.args.err.now.stream.now) (g.E.Write.contents c.step_hub-status.new.err.stream.now)
     c.step_hub-status.new.err.calls c.step_hub-status.new.err.failed in
     let store : Shelf = record { before = g.S.Store.holds c.args.store.now; after = g.S.Store.holds c.step_hub-status.new.store } in
-    script_stepped c.args.options.now (plain_script c.args.script) (plain_subject c.subject_of-program.result.1) c.subject_of-program.result.0 c.in-Ok.hub input output errors store
-    c.step_hub-status.result c.subject_of-program.ensures.program c.subject_of-program.ensures.subject c.in-Ok.ensures.ok c.step_hub-status.ensures.stepped
+    let subject = c.subject_of-program.result.1 in
+    script_stepped c.args.options.now (plain_script c.args.script) subject.text.items subject.forms.items c.subject_of-program.result.0 c.in-Ok.hub input output errors store
+    c.step_hub-status.result c.subject_of-program.ensures.program c.subject_of-program.ensures.text c.subject_of-program.ensures.forms c.in-Ok.ensures.ok c.step_hub-status.ensures.stepped

@@ -1,15 +1,15 @@
 use Rattle.std.proofs.Common.{◌≡◌, [], IsTrue}
 use Rattle.cml_stream.specs.Streams.{stream}
 use Rattle.cml_hub.specs.Kept.{NoneOut}
-use Rattle.cml_stepper.specs.Hands.{FollowsTo, script_of}
+use Rattle.cml_stepper.specs.Steppers.{FollowsTo, places_known}
 use Rattle.cml_host.specs.Stepped.{TalksOn}
 use Rattle.cml_host.proofs.step.talk.Given as goal
 
 abbrev pub invariant-loop : goal.invariant-loop
 invariant-loop g l = record {
-  stands : TalksOn (script_of l.fn.stepper) l.asked.items l.fn.hub [] l.typed.items l.hub (stream (g.I.Read.remaining l.fn.input.stream.now) (g.I.Read.remaining l.input.stream.now))
+  stands : TalksOn (places_known l.fn.stepper) l.fn.hub [] l.typed.items l.hub (stream (g.I.Read.remaining l.fn.input.stream.now) (g.I.Read.remaining l.input.stream.now))
       (stream (g.O.Write.contents l.fn.out.stream.now) (g.O.Write.contents l.out.stream.now));
-  script : script_of l.stepper ≡ script_of l.fn.stepper;
+  script : places_known l.stepper ≡ places_known l.fn.stepper;
   none_out : NoneOut l.hub;
   there : FollowsTo l.hub.course l.stepper;
   calls : l.input.calls ≡ l.counter;

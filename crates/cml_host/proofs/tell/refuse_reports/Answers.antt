@@ -1,4 +1,4 @@
-use Rattle.cml_host.specs.Told.{cannot_write}
+use Rattle.cml_host.specs.Written.{cannot_write}
 use Rattle.cml_host.proofs.SayLemmas.{said_still}
 use Rattle.cml_host.proofs.tell.refuse_reports.Goals as goal
 

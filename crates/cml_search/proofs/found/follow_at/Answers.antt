@@ -31,6 +31,9 @@ returns-clause-some g c = record { keeps = c.in_ok-all.ensures.keeps; broad = c.
 pub returns-clause-bounded : goal.returns-clause-bounded
 returns-clause-bounded g c = c.in_ok-all.ensures.bounded
 
+pub returns-clause-full : goal.returns-clause-full
+returns-clause-full g c = c.in_ok-all.ensures.full
+
 pub returns-clause-search : goal.returns-clause-search
 returns-clause-search g c =
     let y = g.Y.System.rules c.args.system.now in

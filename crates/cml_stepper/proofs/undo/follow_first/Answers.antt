@@ -24,5 +24,5 @@ loop-i-preserved c =
       items = c.in_ok-come.ensures.items ∙ (ap (λ xs. xs ++ item ∷ []) inv.items ∙ taken_more items c.loop-i.i item within is);
       none_out = c.in_ok-come.ensures.none_out;
       knows = c.in_ok-come.ensures.knows;
-      tale = c.in_ok-come.ensures.tale ∙ inv.tale;
+      places = c.in_ok-come.ensures.places ∙ inv.places;
     }

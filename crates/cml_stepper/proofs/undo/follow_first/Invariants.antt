@@ -1,6 +1,6 @@
 use Rattle.std.proofs.Common.{◌≡◌, ◌≤◌, take}
 use Rattle.cml_hub.specs.Kept.{NoneOut}
-use Rattle.cml_narrative.specs.Tellers.{tale_of, Knows}
+use Rattle.cml_narrative.specs.Narrators.{places_of, Knows}
 use Rattle.cml_stepper.proofs.undo.follow_first.Given as goal
 
 -- the second hub has gone so far, and the narrator with it
@@ -12,5 +12,5 @@ invariant-loop-i l = record {
   items : l.second.course.items ≡ take l.i l.items;
   none_out : NoneOut l.second;
   knows : Knows l.second.course l.narrator;
-  tale : tale_of l.narrator ≡ tale_of l.fn.narrator;
+  places : places_of l.narrator ≡ places_of l.fn.narrator;
 }

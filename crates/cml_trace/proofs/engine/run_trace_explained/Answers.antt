@@ -24,9 +24,9 @@ returns-in_err-push_str-clause-err g c =
     broken_memory c.from_residual-in_err-push_str.result input output c.from_residual-in_err-push_str.ensures.1
     (begun_long_whole input output c.in_ok-input.input.items came long c.in_ok-write_out.ensures.ok)
 
-pub returns-in_err-explain_trace-clause-err : goal.returns-in_err-explain_trace-clause-err
-returns-in_err-explain_trace-clause-err g c =
+pub returns-in_err-tell-clause-err : goal.returns-in_err-tell-clause-err
+returns-in_err-tell-clause-err g c =
     let input = stream (g.R.Read.remaining c.args.reader.now.stream.now) (g.R.Read.remaining c.read_all.new.reader.stream.now) in
     let output = stream (g.W.Write.contents c.args.writer.now.stream.now) (g.W.Write.contents c.answer.new.writer.stream.now) in
     let answered : IsAnswered input output c.in_ok-end.end = search rules in
-    broken_memory c.from_residual-in_err-explain_trace.result input output c.from_residual-in_err-explain_trace.ensures.1 (begun_answered input output c.in_ok-end.end answered)
+    broken_memory c.from_residual-in_err-tell.result input output c.from_residual-in_err-tell.ensures.1 (begun_answered input output c.in_ok-end.end answered)

@@ -1,9 +1,8 @@
 use Rattle.std.proofs.Common.{sym}
-use Rattle.std.specs.String.{string_bytes}
 use Rattle.cml_trace.proofs.ExplainedLemmas.{told_refused}
 use Rattle.cml_trace.proofs.explained.do_command.Goals as goal
 
 pub returns-in-Some-clause-told : goal.returns-in-Some-clause-told
 returns-in-Some-clause-told g c =
     told_refused c.tell_refused.result c.args.number c.args.book.now c.perform.new.self c.args.command c.in-Ok.reply c.in-Some.why
-    (string_bytes c.args.text.now) (string_bytes c.tell_refused.new.text) c.in-Ok.ensures (sym c.in-Some.ensures) (c.tell_refused.ensures c.args.command c.requires)
+    c.args.told.now.items c.tell_refused.new.told.items c.in-Ok.ensures (sym c.in-Some.ensures) (c.tell_refused.ensures c.args.command c.requires)

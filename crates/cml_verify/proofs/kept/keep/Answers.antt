@@ -1,5 +1,6 @@
 use Rattle.std.proofs.Common.{ap, sym, ◌∙◌}
 use Rattle.cml_hub.specs.Runs.{terminal}
+use Rattle.cml_verify.specs.Digests.{digest_at}
 use Rattle.cml_verify.proofs.kept.keep.Goals as goal
 
 pub returns : goal.returns
@@ -10,4 +11,7 @@ returns c = record {
 }
 
 pub invariant_of-kept : goal.invariant_of-kept
-invariant_of-kept c = c.is_quiet-ends.ensures ∙ ap terminal (sym ((rw c.in-Some.is at c.in_ok-read.ensures) ∙ c.book.ensures))
+invariant_of-kept c = (
+  c.is_quiet-ends.ensures ∙ ap terminal (sym ((rw c.in-Some.is at c.in_ok-read.ensures) ∙ c.book.ensures)),
+  c.digest_of-digest.ensures ∙ ap (digest_at c.in-Some.world) c.as_slice.ensures.value,
+)

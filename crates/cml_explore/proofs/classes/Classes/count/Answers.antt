@@ -9,7 +9,7 @@ join-requires c =
       digest = c.args.digest;
       items =
           c.args.items.now;
-    }) c.self.inside.details.keys c.self.inside.tallies.items c.in-Some.class c.args.details
+    }) c.self.inside.details.keys c.self.inside.summaries.items c.in-Some.class c.args.details
     c.index_mut.result.now c.args.self.now
     c.self.invariant (sym c.in-Some.ensures.index) c.index_mut.ensures.value (sym c.self.view_is) c.requires
 
@@ -19,7 +19,7 @@ returns-in-Some-clause-ok c =
       details = c.args.details.items;
       digest = c.args.digest;
       items = c.args.items.now;
-    }) c.self.inside.details.keys c.self.inside.tallies.items c.in-Some.class
+    }) c.self.inside.details.keys c.self.inside.summaries.items c.in-Some.class
     c.args.details c.index_mut.result.now c.join.new.self c.args.self.now
     c.self.invariant (sym c.in-Some.ensures.index) c.index_mut.ensures.value (sym c.self.view_is) c.join.ensures.ok
 
@@ -30,16 +30,16 @@ returns-in-None-clause-ok c =
       digest =
           c.args.digest;
       items = c.args.items.now;
-    }) c.self.inside.details.keys c.self.inside.tallies.items _
-    c.begin_class.new.tallies.items c.args.self.now
-    c.self.invariant (sym c.in-None.ensures.found) (sym c.self.view_is) c.begin_class.ensures.known c.begin_class.ensures.tallies
+    }) c.self.inside.details.keys c.self.inside.summaries.items _
+    c.begin_class.new.summaries.items c.args.self.now
+    c.self.invariant (sym c.in-None.ensures.found) (sym c.self.view_is) c.begin_class.ensures.known c.begin_class.ensures.summaries
 
 pub returns-in-Some-clause-err : goal.returns-in-Some-clause-err
 returns-in-Some-clause-err c =
-    joins_not c.join.result (λ d. d.items) c.self.inside.details.keys c.self.inside.tallies.items c.in-Some.class c.index_mut.result.now c.join.new.self c.args.self.now
+    joins_not c.join.result (λ d. d.items) c.self.inside.details.keys c.self.inside.summaries.items c.in-Some.class c.index_mut.result.now c.join.new.self c.args.self.now
     c.index_mut.ensures.value (sym c.self.view_is) c.join.ensures.err
 
 pub returns-in-None-clause-err : goal.returns-in-None-clause-err
 returns-in-None-clause-err c =
-    begins_not c.begin_class.result (λ d. d.items) c.self.inside.details.keys c.begin_class.new.known.keys c.self.inside.tallies.items c.begin_class.new.tallies.items c.args.self.now
+    begins_not c.begin_class.result (λ d. d.items) c.self.inside.details.keys c.begin_class.new.known.keys c.self.inside.summaries.items c.begin_class.new.summaries.items c.args.self.now
     (sym c.self.view_is) c.begin_class.ensures.err

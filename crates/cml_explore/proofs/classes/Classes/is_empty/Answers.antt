@@ -6,4 +6,4 @@ use Rattle.cml_explore.proofs.classes.Classes.is_empty.Goals as goal
 pub returns : goal.returns
 returns c =
     c.is_empty.ensures
-    ∙ ap (λ n. n == 0) (c.self.inside.tallies.ok.0 ∙ (sym (class_count (λ d. d.items) c.self.inside.details.keys c.self.inside.tallies.items c.self.invariant) ∙ ap length c.self.view_is))
+    ∙ ap (λ n. n == 0) (c.self.inside.summaries.ok.0 ∙ (sym (class_count (λ d. d.items) c.self.inside.details.keys c.self.inside.summaries.items c.self.invariant) ∙ ap length c.self.view_is))

@@ -4,5 +4,5 @@ use Rattle.cml_explore.proofs.classes.Classes.len.Goals as goal
 
 pub returns : goal.returns
 returns c =
-    let many : c.len.result ≡ length c.self.inside.tallies.items = omega (arith, c.self.inside.tallies.ok.0) in
-    many ∙ (sym (class_count (λ d. d.items) c.self.inside.details.keys c.self.inside.tallies.items c.self.invariant) ∙ ap length c.self.view_is)
+    let many : c.len.result ≡ length c.self.inside.summaries.items = omega (arith, c.self.inside.summaries.ok.0) in
+    many ∙ (sym (class_count (λ d. d.items) c.self.inside.details.keys c.self.inside.summaries.items c.self.invariant) ∙ ap length c.self.view_is)

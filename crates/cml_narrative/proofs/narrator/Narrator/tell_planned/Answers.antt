@@ -1,18 +1,18 @@
-use Rattle.std.proofs.Common.{ltb, length, refl, sym, ap}
-use Rattle.cml_narrative.specs.Tellers.{tale_of}
-use Rattle.cml_narrative.proofs.TellLemmas.{turn_told}
+use Rattle.std.proofs.Common.{List, ap, ◌∙◌}
+use Rattle.std.specs.Prelude.{◌==◌, if◌then◌else◌, option_and_then}
+use Rattle.cml_phrase.specs.declared.place.Place.{Place}
+use Rattle.cml_ending.specs.Standings.{spot_place}
+use Rattle.cml_narrative.specs.Deeds.{could_count}
+use Rattle.cml_narrative.specs.Narrators.{places_of}
+use Rattle.cml_narrative.proofs.TurnLemmas.{turn_told}
 use Rattle.cml_narrative.proofs.narrator.Narrator.tell_planned.Goals as goal
 
-pub returns-clause-told : goal.returns-clause-told
-returns-clause-told c = λ knows.
-    let came = c.if-not-branch.false in
-    let follows = rw came at c.in_ok-follow.ensures.follows in
-    let told = rw (c.in_ok-push_told.was, c.as_slice.ensures.value, c.new_count.ensures, c.could_count-before.ensures) at c.push_told.ensures in
-    turn_told (tale_of c.args.self.now) c.args.hub.now.course c.follow.new.hub.course c.args.thread c.follow.new.self
-    c.args.plan.now.spot c.args.plan.now.asked.items c.in_ok-words.words.items c.args.out.now.items
-    c.push_told.new.out.items
-    c.faults-faults.result c.faults.result (length c.out-printed.result.now) (ltb c.faults-faults.result c.faults.result)
-    c.in_ok-follow.ensures.tale c.schedule-so_far.ensures.leads follows.course c.requires.plan
-    (c.in_ok-follow.ensures.knows came knows) c.faults-faults.ensures c.faults.ensures refl
-    (ap length (sym c.out-printed.ensures))
-    c.in_ok-words.ensures.did c.in_ok-words.ensures.fault told
+pub returns-in_ok-turned-in-Some-clause-told : goal.returns-in_ok-turned-in-Some-clause-told
+returns-in_ok-turned-in-Some-clause-told c = λ knows.
+    let new = c.turn.new.hub.course in
+    let told = c.in_ok-turned-in-Some.ensures in
+    let comes = rw c.in-Some.is at c.in_ok-came.ensures.came in
+    turn_told (places_of c.args.self.now) c.args.hub.now.course new c.args.thread c.args.plan c.in_ok-turned-in-Some.turned c.in-Some.came c.happened.result
+    c.requires.plan told.thread (told.place ∙ ap (λ (p : List (List Place)). option_and_then (spot_place p) c.args.plan.spot) c.turn.ensures.places) told.asked
+    (comes knows) c.happened.ensures.number
+    (c.happened.ensures.could ∙ (c.new_count.ensures ∙ ap (λ n. if n == 0 then could_count new.world else 0) c.could_count-before.ensures)) c.happened.ensures.did

@@ -1,14 +1,11 @@
-use Rattle.std.proofs.Common.{◌++◌, subst, ap, length, ◌∙◌}
-use Rattle.cml_stepper.specs.Questions.{ByHand, IsQuestion}
-use Rattle.cml_stepper.specs.Replies.{undone_line}
+use Rattle.std.proofs.Common.{List, length, ap, subst}
+use Rattle.cml_phrase.specs.declared.place.Place.{Place}
+use Rattle.cml_stepper.specs.Questions.{IsQuestion}
 use Rattle.cml_stepper.proofs.stepper.Stepper.go_back.Goals as goal
 
 pub returns-clause-undoes : goal.returns-clause-undoes
-returns-clause-undoes c =
-    let asked = c.in_ok-asked.asked.items in
-    record {
-      back = c.in_ok-undo.ensures.back;
-      asked = asked;
-      asks = subst (λ (s : ByHand). IsQuestion s c.undo.new.hub asked) c.undo.ensures.script c.in_ok-asked.ensures;
-      said_is = c.in_ok-said.ensures ∙ ap (λ xs. xs ++ asked) (c.in_ok-told.ensures ∙ ap undone_line (ap length c.schedule.ensures.items));
-    }
+returns-clause-undoes c = (
+  c.in_ok-undo.ensures.back,
+  ap length c.schedule-number.ensures.items,
+  subst (λ (places : List (List Place)). IsQuestion places c.undo.new.hub c.in_ok-question.question) c.undo.ensures.places c.in_ok-question.ensures,
+)

@@ -1,5 +1,5 @@
 use Rattle.std.proofs.Common.{sym, ◌∙◌}
-use Rattle.cml_stepper.specs.Hands.{script_of}
+use Rattle.cml_stepper.specs.Steppers.{places_known}
 use Rattle.cml_stepper.proofs.ReplyLemmas.{typed_allowed, moves_some, moves_none}
 use Rattle.cml_stepper.proofs.stepper.Stepper.go_on.Goals as goal
 
@@ -8,12 +8,9 @@ go-requires-clause-allowed c = typed_allowed c.args.hub.now.course.world c.args.
 
 pub returns-in_ok-gone-in-Some-clause-moves : goal.returns-in_ok-gone-in-Some-clause-moves
 returns-in_ok-gone-in-Some-clause-moves c =
-    moves_some (script_of c.args.self.now) c.args.what c.args.hub.now _ c.in_ok-gone-in-Some.gone.text.items
-    c.in-Some.item _ (sym c.in-Some.is ∙ c.in_ok-named.ensures) c.in_ok-gone-in-Some.ensures.goes
+    moves_some (places_known c.args.self.now) c.args.what c.args.hub.now c.go.new.hub c.in_ok-gone-in-Some.gone c.in-Some.item _ (sym c.in-Some.is ∙ c.in_ok-named.ensures) c.in_ok-gone-in-Some.ensures.goes
 
-pub returns-in_ok-stayed-in-None-clause-moves : goal.returns-in_ok-stayed-in-None-clause-moves
-returns-in_ok-stayed-in-None-clause-moves c =
-    moves_none (script_of c.args.self.now) c.args.what c.args.hub.now c.args.hub.now c.in_ok-words-in-None.words.items
-    c.in_ok-stayed-in-None.stayed.text.items _ (sym c.in-None.is ∙ c.in_ok-named.ensures)
-    c.in_ok-words-in-None.ensures
-    c.in_ok-stayed-in-None.ensures.stays
+pub returns-in_ok-stay-in-None-clause-moves : goal.returns-in_ok-stay-in-None-clause-moves
+returns-in_ok-stay-in-None-clause-moves c =
+    moves_none (places_known c.args.self.now) c.args.what c.args.hub.now c.in_ok-stay-in-None.stay c.stays.result _ (sym c.in-None.is ∙ c.in_ok-named.ensures)
+    c.in_ok-stay-in-None.ensures c.stays.ensures

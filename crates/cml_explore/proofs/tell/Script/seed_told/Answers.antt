@@ -1,0 +1,9 @@
+use Rattle.std.proofs.Common.{map}
+use Rattle.cml_explore.proofs.ToldLemmas.{seed_so}
+use Rattle.cml_explore.proofs.tell.Script.seed_told.Goals as goal
+
+pub returns : goal.returns
+returns c =
+    let s = c.args.self.now in
+    seed_so c.run_told-told.result (map (λ own. own.items) s.places.now) s.program.now s.budget s.order c.args.seed c.in_ok-hub.hub c.in_ok-hub.ensures
+    c.run_told-told.ensures

@@ -1,0 +1,83 @@
+-- What is told of many runs.
+use Rattle.std.specs.Prelude.{◌≡◌, ℕ, ◌+◌, ◌-◌, nat_le, if◌then◌else◌, Bool, true, false, List, map, length, count_by, Option, Some, None, slice_get}
+use Rattle.std.specs.List.{All}
+use Rattle.cml_check.specs.Syntax.{PlainItem}
+use Rattle.cml_step.specs.Calls.{text_of}
+use Rattle.cml_hub.specs.Courses.{PlainCourse, run_of}
+use Rattle.cml_hub.specs.Deeds.{fault_count}
+use Rattle.cml_hub.specs.Kept.{Kept}
+use Rattle.cml_hub.specs.Runs.{ending}
+use Rattle.cml_phrase.specs.declared.place.Place.{Place}
+use Rattle.cml_ending.specs.declared.standing.Spot.{Spot}
+use Rattle.cml_ending.specs.declared.left.Stands.TheVariants as standing
+use Rattle.cml_fault.specs.Falls.{PlainFall, AreFalls}
+use Rattle.cml_seed.specs.declared.order.Order.{Order}
+use Rattle.cml_seed.specs.SeedRuns.{IsSeedRun}
+use Rattle.cml_explore.specs.declared.explored.Asked.{Asked}
+use Rattle.cml_explore.specs.declared.told.ClassTold.{ClassTold}
+use Rattle.cml_explore.specs.declared.told.RunTold.{RunTold}
+use Rattle.cml_explore.specs.declared.told.RunsTold.{RunsTold}
+use Rattle.cml_explore.specs.declared.told.ThreadLeft.{ThreadLeft}
+use Rattle.cml_explore.specs.declared.told.ThreadState.{ThreadState}
+use Rattle.cml_explore.specs.declared.told.ThreadState.TheVariants as states
+use Rattle.cml_explore.specs.Classes.{PlainClass}
+use Rattle.cml_explore.specs.Explored.{PlainExplored}
+use Rattle.cml_explore.specs.Ranks.{AreInRank}
+use Rattle.cml_explore.specs.Sights.{sight_of, AreSpotsToTell, threads_told}
+
+-- The threads that are left in a run, or ended at a fault in it, by number. A call that waits stands at a statement that has it wait; where there
+-- are two such, either may be told.
+pub record AreThreadsTold (places : List (List Place)) (c : PlainCourse) (threads : List ThreadLeft) : Type 0 where
+  pub falls : ℕ → Option PlainFall
+  pub are : AreFalls c.program c.items falls
+  pub spots : List (Option Spot)
+  pub stands : AreSpotsToTell c falls spots
+  pub threads_are : threads ≡ threads_told (sight_of places c falls spots) 0 c.world.threads
+
+abbrev pub is_wait : ThreadState → Bool
+is_wait (states.Stands (standing.Waits awaited)) = true
+is_wait (states.Stands standing.Runs) = false
+is_wait (states.AtFault reason) = false
+
+abbrev pub is_run : ThreadState → Bool
+is_run (states.Stands (standing.Waits awaited)) = false
+is_run (states.Stands standing.Runs) = true
+is_run (states.AtFault reason) = false
+
+-- What is told of the run of a hub: how it ended, how many threads wait, run and ended at a fault, and these threads.
+pub record IsRunTold (places : List (List Place)) (h : Kept) (told : RunTold) : Type 0 where
+  pub end_is : told.end ≡ ending h.budget (run_of h.course)
+  pub threads_are : AreThreadsTold places h.course told.threads.items
+  pub waits_are : told.waits ≡ count_by (λ t. is_wait t.state) told.threads.items
+  pub runs_are : told.runs ≡ count_by (λ t. is_run t.state) told.threads.items
+  pub faults_are : told.faults ≡ fault_count (text_of h.course.program) h.course.items
+
+-- what is told of the run of a program by a seed
+abbrev pub IsSeedTold : List (List Place) → List (PlainItem ℕ) → ℕ → Order → ℕ → RunTold → Type 0
+IsSeedTold places p budget order seed told = (h : Kept) × IsSeedRun p budget order seed h × IsRunTold places h told
+
+-- What is told of one of the classes: what is kept of it, and what is told of its first run.
+pub record IsClassTold (places : List (List Place)) (p : List (PlainItem ℕ)) (budget : ℕ) (order : Order) (classes : List PlainClass) (told : ClassTold) : Type 0 where
+  pub class : PlainClass
+  pub there : slice_get classes told.number ≡ Some class
+  pub runs_are : told.runs ≡ class.summary.runs
+  pub outputs_are : told.outputs ≡ length class.summary.outputs
+  pub first_is : told.first ≡ class.summary.first
+  pub items_are : told.items ≡ class.summary.items
+  pub run_is : IsSeedTold places p budget order told.first told.run
+
+-- What is told of the classes: of each, by size.
+pub record AreClassesTold (places : List (List Place)) (p : List (PlainItem ℕ)) (budget : ℕ) (order : Order) (classes : List PlainClass) (told : List ClassTold) : Type 0 where
+  pub ranked : AreInRank classes (map (λ c. c.number) told)
+  pub each : All (IsClassTold places p budget order classes) told
+
+-- the seed of the last of so many runs, where there are more than one
+abbrev pub last_seed : ℕ → ℕ → Option ℕ
+last_seed first runs = if nat_le runs 1 then None else Some (first + (runs - 1))
+
+-- What is told of the runs that were asked for, of which these were made: how many there are, by which seeds, and their classes.
+pub record IsToldOfRuns (places : List (List Place)) (p : List (PlainItem ℕ)) (asked : Asked) (made : PlainExplored) (told : RunsTold) : Type 0 where
+  pub runs_are : told.runs ≡ made.runs
+  pub first_is : told.first ≡ asked.first
+  pub last_is : told.last ≡ last_seed asked.first made.runs
+  pub classes_are : AreClassesTold places p asked.budget asked.order made.classes told.classes.items

@@ -1,0 +1,214 @@
+//! What is told of many runs is made of them.
+
+ghost use Rattle.std.specs.{Prelude.{◌≡◌, ◌<◌, ◌≤◌, ◌+◌, ◌^◌, IfOk, count_by, length, map}, List.{All}};
+ghost use Rattle.cml_hub.specs.Kept.{IsBudget};
+ghost use Rattle.cml_phrase.specs.Spots.{all_places};
+ghost use Rattle.cml_explore.specs.Told.{AreClassesTold, AreThreadsTold, IsClassTold, IsRunTold, IsSeedTold, IsToldOfRuns};
+ghost use Rattle.cml_explore.specs.Told as spec;
+
+use crate::classes::Classes;
+use crate::explored::{Asked, Explored};
+use crate::sight::{Sighted, spots_of};
+use crate::told::{ClassTold, RunTold, RunsTold, ThreadLeft, ThreadState};
+use cml_check::Prog;
+use cml_ending::{Stands, let_go};
+use cml_fault::retell;
+use cml_hub::Hub;
+use cml_phrase::{Place, statement_places};
+use cml_seed::{Order, seed_run};
+use cml_text::Sexpr;
+use std::alloc::{AllocError, Global};
+
+// The script of which is told.
+#[derive(Clone, Copy)]
+struct Script<'a> {
+    alloc: Global,
+    places: &'a [Vec<Place>],
+    program: &'a Prog,
+    budget: u64,
+    order: Order,
+}
+
+// The threads of this run that are left or ended at a fault.
+fn threads_told(
+    alloc: Global,
+    places: &[Vec<Place>],
+    hub: &Hub,
+) -> Result<Vec<ThreadLeft>, AllocError>
+    ensures { IfOk result (λ threads. AreThreadsTold (map (λ own. own.items) places.now) hub.now.course threads.items) }
+{
+    let known = retell(alloc, hub)?;
+    let spots = spots_of(alloc, hub, &known.falls)?;
+    let sight = Sighted {
+        alloc,
+        places,
+        hub,
+        takers: &known.takers,
+        falls: &known.falls,
+        spots: spots.as_slice(),
+    };
+    sight.threads()
+}
+
+// Whether the thread waits.
+fn is_waiting(thread: &ThreadLeft) -> bool
+    ensures { result ≡ spec.is_wait thread.now.state }
+{
+    matches!(thread.state, ThreadState::Stands(Stands::Waits(_)))
+}
+
+// Whether it runs.
+fn is_running(thread: &ThreadLeft) -> bool
+    ensures { result ≡ spec.is_run thread.now.state }
+{
+    matches!(thread.state, ThreadState::Stands(Stands::Runs))
+}
+
+// How many of these threads wait.
+fn wait_count(threads: &[ThreadLeft]) -> usize
+    ensures { result ≡ count_by (λ t. spec.is_wait t.state) threads.now }
+{
+    let mut count = 0;
+    for thread in threads {
+        if is_waiting(thread) {
+            count += 1;
+        }
+    }
+    count
+}
+
+// How many of them run.
+fn run_count(threads: &[ThreadLeft]) -> usize
+    ensures { result ≡ count_by (λ t. spec.is_run t.state) threads.now }
+{
+    let mut count = 0;
+    for thread in threads {
+        if is_running(thread) {
+            count += 1;
+        }
+    }
+    count
+}
+
+// What is told of the run of this hub.
+fn run_told(alloc: Global, places: &[Vec<Place>], hub: &Hub) -> Result<RunTold, AllocError>
+    ensures { IfOk result (λ told. IsRunTold (map (λ own. own.items) places.now) hub.now told) }
+{
+    let threads = threads_told(alloc, places, hub)?;
+    Ok(RunTold {
+        end: hub.end(),
+        waits: wait_count(threads.as_slice()),
+        runs: run_count(threads.as_slice()),
+        faults: hub.faults(),
+        threads,
+    })
+}
+
+impl Script<'_> {
+    // What is told of the run by this seed, which is made once more.
+    fn seed_told(&self, seed: u64) -> Result<RunTold, AllocError>
+        requires { IsBudget self.now.budget }
+        ensures { IfOk result (λ told. IsSeedTold (map (λ own. own.items) self.now.places.now) self.now.program.now self.now.budget self.now.order seed told) }
+    {
+        let hub = seed_run(self.alloc, self.program, self.budget, self.order, seed)?;
+        let told = run_told(self.alloc, self.places, &hub);
+        let_go(hub);
+        told
+    }
+
+    // What is told of the class of this number.
+    fn class_told(&self, classes: &Classes, number: usize) -> Result<ClassTold, AllocError>
+        requires budget { IsBudget self.now.budget }
+        requires number { number < length classes.now }
+        ensures told { IfOk result (λ told. IsClassTold (map (λ own. own.items) self.now.places.now) self.now.program.now self.now.budget self.now.order classes.now told) }
+        ensures number { IfOk result (λ told. told.number ≡ number) }
+    {
+        let summary = classes.class(number).summary;
+        let first = summary.first();
+        let run = self.seed_told(first)?;
+        Ok(ClassTold {
+            number,
+            runs: summary.runs(),
+            outputs: summary.outputs(),
+            first,
+            items: summary.items(),
+            run,
+        })
+    }
+
+    // What is told of the classes of these numbers.
+    fn classes_told(
+        &self,
+        classes: &Classes,
+        numbers: &[usize],
+    ) -> Result<Vec<ClassTold>, AllocError>
+        requires budget { IsBudget self.now.budget }
+        requires numbers { All (λ n. n < length classes.now) numbers.now }
+        ensures numbers { IfOk result (λ told. map (λ c. c.number) told.items ≡ numbers.now) }
+        ensures each { IfOk result (λ told. All (IsClassTold (map (λ own. own.items) self.now.places.now) self.now.program.now self.now.budget self.now.order classes.now) told.items) }
+    {
+        let mut told = Vec::new(self.alloc);
+        for index in 0..numbers.len() {
+            let class = self.class_told(classes, numbers[index])?;
+            told.push(class)?;
+        }
+        Ok(told)
+    }
+
+    // What is told of all classes.
+    fn all_told(&self, classes: &Classes) -> Result<Vec<ClassTold>, AllocError>
+        requires budget { IsBudget self.now.budget }
+        ensures { IfOk result (λ told. AreClassesTold (map (λ own. own.items) self.now.places.now) self.now.program.now self.now.budget self.now.order classes.now told.items) }
+    {
+        let numbers = classes.ranking(self.alloc)?;
+        self.classes_told(classes, numbers.as_slice())
+    }
+}
+
+// The seed of the last of so many runs, where there are more than one.
+fn last_seed(first: u64, runs: u64) -> Option<u64>
+    requires { first + runs ≤ 2 ^ 64 }
+    ensures { result ≡ spec.last_seed first runs }
+{
+    if runs <= 1 {
+        None
+    } else {
+        Some(first + (runs - 1))
+    }
+}
+
+/// What is told of the runs that were asked for: how many, and the classes of those that ended alike, by size and then by first seed, each with
+/// the threads that are left in its first run, or ended at a fault in it, for which that is made once more. The script has this text and forms,
+/// and is this program.
+///
+/// # Errors
+/// Out of memory.
+pub fn tell_runs(
+    alloc: Global,
+    text: &[u8],
+    forms: &[Sexpr],
+    program: &Prog,
+    asked: Asked<'_>,
+    made: &Explored,
+) -> Result<RunsTold, AllocError>
+    requires budget { IsBudget asked.budget }
+    requires seeds { asked.first + made.now.runs ≤ 2 ^ 64 }
+    ensures { IfOk result (λ told. IsToldOfRuns (all_places text.now forms.now) program.now asked.entry made.now told) }
+{
+    let places = statement_places(alloc, text, forms)?;
+    let script = Script {
+        alloc,
+        places: places.as_slice(),
+        program,
+        budget: asked.budget,
+        order: asked.order,
+    };
+    let classes = script.all_told(made.classes())?;
+    let runs = made.runs();
+    Ok(RunsTold {
+        runs,
+        first: asked.first,
+        last: last_seed(asked.first, runs),
+        classes,
+    })
+}

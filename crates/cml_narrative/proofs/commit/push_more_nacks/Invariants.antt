@@ -1,8 +1,0 @@
-use Rattle.std.proofs.Common.{◌≡◌, ◌++◌, take}
-use Rattle.std.specs.List.{flat_map}
-use Rattle.cml_group.specs.Leaves.{numbers}
-use Rattle.cml_narrative.specs.Commits.{and_number}
-use Rattle.cml_narrative.proofs.commit.push_more_nacks.Given as goal
-
-abbrev pub invariant-loop-nack : goal.invariant-loop-nack
-invariant-loop-nack l = l.out.items ≡ l.fn.out.items ++ flat_map and_number (numbers (take l.nack-index l.nacks))

@@ -1,0 +1,11 @@
+pub mod Signs
+pub mod Stacks
+pub mod Parts
+pub mod Lives
+pub mod Sheets
+pub mod Draws
+pub mod Stops
+pub mod Layouts
+pub mod Xml
+pub mod WellFormed
+pub mod Views

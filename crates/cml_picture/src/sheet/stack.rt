@@ -1,0 +1,17 @@
+//! What the items show, from the top.
+
+ghost use Rattle.std.specs.Prelude.{◌≡◌, ◌≤◌};
+ghost use Rattle.cml_picture.specs.Stacks.{bottom_of};
+
+use cml_narrative::Happened;
+
+/// What the items did so far that show something, how far below the top the next row begins, and how many rows were counted.
+#[derive(Drop)]
+pub struct Stack {
+    pub shown: Vec<Happened>,
+    pub bottom: u32,
+    pub rows: u32,
+    pub ghost low: { bottom ≤ 1000000000 },
+    pub ghost few: { rows ≤ 2000 },
+    pub ghost stacked: { bottom ≡ bottom_of shown.items },
+}

@@ -1,4 +1,0 @@
-pub mod ChoiceLemmas
-pub mod BlameLemmas
-pub mod StepLemmas
-pub mod PieceLemmas

@@ -1,2 +1,0 @@
-mod ThreadLemmas
-mod Walks

@@ -1,0 +1,4 @@
+pub mod DrawLemmas
+pub mod LotLemmas
+pub mod PriorityLemmas
+pub mod RunLemmas
