@@ -37,8 +37,8 @@ no_match own name other = go (bytes_eq own name) refl
 -- there are no other commands
 pub no_other : (name : Text) (given : List Row) → is_complete commands (Some (name, given)) ≡ true → (name ≡ codes "trace" → ⊥) → (name ≡ codes "check" → ⊥)
     → (name ≡ codes "fmt" → ⊥) → (name ≡ codes "run" → ⊥) → (name ≡ codes "replay" → ⊥) → (name ≡ codes "explain" → ⊥) → (name ≡ codes "explore" → ⊥)
-    → (name ≡ codes "shrink" → ⊥) → (name ≡ codes "draw" → ⊥) → (name ≡ codes "step" → ⊥) → ⊥
-no_other name given complete trace check fmt run replay explain explore shrink draw step =
+    → (name ≡ codes "verify" → ⊥) → (name ≡ codes "shrink" → ⊥) → (name ≡ codes "draw" → ⊥) → (name ≡ codes "step" → ⊥) → ⊥
+no_other name given complete trace check fmt run replay explain explore verify shrink draw step =
     let none : false ≡ true =
     rw (
       no_match _ _ trace,
@@ -49,6 +49,7 @@ no_other name given complete trace check fmt run replay explain explore shrink d
       no_match _ _
           explain,
       no_match _ _ explore,
+      no_match _ _ verify,
       no_match _ _ shrink,
       no_match _ _ draw,
       no_match _ _ step,

@@ -33,6 +33,7 @@ use Rattle.cml_arguments.specs.declared.RunOptions.{RunOptions}
 use Rattle.cml_arguments.specs.declared.ShrinkOptions.{ShrinkOptions}
 use Rattle.cml_arguments.specs.declared.StepOptions.{StepOptions}
 use Rattle.cml_arguments.specs.declared.TraceOptions.{TraceOptions}
+use Rattle.cml_arguments.specs.declared.VerifyOptions.{VerifyOptions}
 use Rattle.cml_arguments.specs.declared.Until.{Until}
 use Rattle.cml_arguments.specs.declared.Until.TheVariants.{Budget, Fault, Waits}
 
@@ -67,6 +68,10 @@ workers_rule = number_rule 1 64
 
 abbrev pub runs_rule : Text → Rule
 runs_rule = number_rule 1 1000000
+
+-- a number of states, from 1 to 100,000,000
+abbrev pub states_rule : Text → Rule
+states_rule = number_rule 1 100000000
 
 -- a depth of priorities, from 1 to 64
 abbrev pub depth_rule : Text → Rule
@@ -128,6 +133,9 @@ abbrev pub explore_command : Shape
 explore_command = command_of (codes "explore")
     (file_rule (codes "FILE") ∷ runs_rule (codes "runs") ∷ any_rule (codes "seed") ∷ count_rule (codes "steps") ∷ workers_rule (codes "workers") ∷ order_rules ++ finding_rules)
 
+abbrev pub verify_command : Shape
+verify_command = command_of (codes "verify") (file_rule (codes "FILE") ∷ states_rule (codes "states") ∷ option_rule (codes "save") ∷ list_rule (codes "servers") ∷ [])
+
 abbrev pub shrink_command : Shape
 shrink_command = command_of (codes "shrink") (file_rule (codes "FILE") ∷ file_rule (codes "SCHEDULE") ∷ count_rule (codes "tries") ∷ [])
 
@@ -145,6 +153,7 @@ commands = record {
       ∷ replay_command
       ∷ part_command (codes "explain")
       ∷ explore_command
+      ∷ verify_command
       ∷ shrink_command
       ∷ part_command (codes "draw")
       ∷ step_command
@@ -188,6 +197,9 @@ IsWorkers = IsInRange 1 64
 
 abbrev pub IsRuns : ℕ → Type 0
 IsRuns = IsInRange 1 1000000
+
+abbrev pub IsStates : ℕ → Type 0
+IsStates = IsInRange 1 100000000
 
 abbrev pub IsDepth : ℕ → Type 0
 IsDepth = IsInRange 1 64
@@ -260,6 +272,14 @@ pub record IsExplore (given : List Row) (options : ExploreOptions) : Type 0 wher
   pub until : option_map (λ word. word.now) options.until ≡ first_of (codes "until") given
   pub counts : IsRuns options.runs × IsCount options.steps × IsWorkers options.workers × IfSome options.priority IsDepth
 
+-- and those of `verify`; where no number of states was, 20,000
+pub record IsVerify (given : List Row) (options : VerifyOptions) : Type 0 where
+  pub script : first_of (codes "FILE") given ≡ Some options.script.now
+  pub states : options.states ≡ unwrap_or (option_number (codes "states") given) 20000
+  pub save : option_map (λ start. start.now) options.save ≡ first_of (codes "save") given
+  pub servers : map (λ name. name.now) options.servers.items ≡ option_texts (codes "servers") given
+  pub counts : IsStates options.states
+
 -- and those of `shrink`; where no number of replays was given, 10,000
 pub record IsShrink (given : List Row) (options : ShrinkOptions) : Type 0 where
   pub script : first_of (codes "FILE") given ≡ Some options.script.now
@@ -281,6 +301,7 @@ Names (name, given) (task_of.Run options) = (name ≡ codes "run") × IsRun give
 Names (name, given) (task_of.Replay options) = (name ≡ codes "replay") × IsReplay given options
 Names (name, given) (task_of.Explain options) = (name ≡ codes "explain") × IsPart given options
 Names (name, given) (task_of.Explore options) = (name ≡ codes "explore") × IsExplore given options
+Names (name, given) (task_of.Verify options) = (name ≡ codes "verify") × IsVerify given options
 Names (name, given) (task_of.Shrink options) = (name ≡ codes "shrink") × IsShrink given options
 Names (name, given) (task_of.Draw options) = (name ≡ codes "draw") × IsPart given options
 Names (name, given) (task_of.Step options) = (name ≡ codes "step") × IsStepping given options
@@ -353,6 +374,10 @@ ExploreOdds options told =
     ⊎ (PassesTheLast options.seed options.runs × (told ≡ codes "--runs goes past the last seed, 18446744073709551615\n"))
     ⊎ (IsSomeAnd options.save (λ start. SavesOver start.now options.script.now) × (told ≡ would_replace (codes "--save") options.script.now))
 
+-- a file that `verify` saves would replace the script
+abbrev pub VerifyOdds : VerifyOptions → List ℕ → Type 0
+VerifyOdds options told = IsSomeAnd options.save (λ start. SavesOver start.now options.script.now) × (told ≡ would_replace (codes "--save") options.script.now)
+
 -- the record of a run by hand would replace its script
 abbrev pub StepOdds : StepOptions → List ℕ → Type 0
 StepOdds options told = ReplacedOdds (codes "--record") (option_map (λ name. name.now) options.record) options.script.now told
@@ -362,6 +387,7 @@ abbrev pub AreAtOdds : Task → List ℕ → Type 0
 AreAtOdds (task_of.Trace options) told = TraceOdds options told
 AreAtOdds (task_of.Run options) told = RunOdds options told
 AreAtOdds (task_of.Explore options) told = ExploreOdds options told
+AreAtOdds (task_of.Verify options) told = VerifyOdds options told
 AreAtOdds (task_of.Step options) told = StepOdds options told
 AreAtOdds _ told = ⊥
 
@@ -396,7 +422,9 @@ with_end command = record command { rules = command.rules ++ end_rules }
 -- the program, with the commands that make a run again and again, or by hand
 abbrev pub with_others : App → App
 with_others app =
-    with_subcommand (with_subcommand (with_subcommand (with_subcommand app explore_command) shrink_command) (part_command (codes "draw"))) step_command
+    with_subcommand
+    (with_subcommand (with_subcommand (with_subcommand (with_subcommand app explore_command) verify_command) shrink_command) (part_command (codes "draw")))
+    step_command
 
 -- and how the order of the turns comes about
 abbrev pub with_order : Shape → Shape

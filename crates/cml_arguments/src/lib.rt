@@ -57,6 +57,8 @@ pub enum Task<'a> {
     Explain(PartOptions<'a>),
     /// Runs a script many times, and says how the runs end.
     Explore(ExploreOptions<'a>),
+    /// Examines every schedule of a script, and says how they end.
+    Verify(VerifyOptions<'a>),
     /// Looks for a shorter schedule of a run that ends alike.
     Shrink(ShrinkOptions<'a>),
     /// Draws what happens in a run, by its schedule.
@@ -191,6 +193,19 @@ impl Until {
             _ => None,
         }
     }
+}
+
+/// How every schedule of a script is examined.
+#[derive(Drop)]
+pub struct VerifyOptions<'a> {
+    /// The file of the script.
+    pub script: &'a str,
+    /// How many states may be kept, from 1 to 100,000,000; where the arguments give no number, 20,000.
+    pub states: u64,
+    /// What the name of each file begins with that gets a schedule; without it none is saved.
+    pub save: Option<&'a str>,
+    /// The functions of servers: threads that began with one of them may wait.
+    pub servers: Vec<&'a str>,
 }
 
 /// How a shorter schedule is looked for.

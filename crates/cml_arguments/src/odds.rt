@@ -2,10 +2,12 @@
 
 ghost use Rattle.std.specs.{Prelude.{◌≡◌, ◌↔◌, ◌<◌, ◌-◌, false, is_some, option_map, IfOk, IsTrue, List, MatchOption, Some, ℕ}, Char.{is_ascii_digit}};
 ghost use Rattle.std.specs.{List.{list_all}, String.{string_bytes}};
-ghost use Rattle.cml_arguments.specs.Words.{saved_end, saved_name, AreOdds, DrawnOdds, ExplainsLive, ExploreOdds, IsUnknown, OrdersTwice, OverRecord, PassesTheLast, ReplacedOdds, Replaces, RunOdds, SavesOver, StepOdds, ToldOdds, TraceOdds};
+ghost use Rattle.cml_arguments.specs.Words.{saved_end, saved_name, AreOdds, DrawnOdds, ExplainsLive, ExploreOdds, IsUnknown, OrdersTwice, OverRecord, PassesTheLast, ReplacedOdds, Replaces, RunOdds, SavesOver, StepOdds, ToldOdds, TraceOdds, VerifyOdds};
 ghost use Rattle.cml_arguments.specs.Words as spec;
 
-use crate::{Explain, ExploreOptions, RunOptions, StepOptions, Task, TraceOptions, Until};
+use crate::{
+    Explain, ExploreOptions, RunOptions, StepOptions, Task, TraceOptions, Until, VerifyOptions,
+};
 use std::alloc::{AllocError, Global};
 
 /// What is said of the options of the task, where they are at odds.
@@ -19,6 +21,7 @@ pub fn told_odds(alloc: Global, task: &Task<'_>) -> Result<Option<String>, Alloc
         Task::Trace(options) => trace_odds(alloc, *options),
         Task::Run(options) => run_odds(alloc, options),
         Task::Explore(options) => explore_odds(alloc, options),
+        Task::Verify(options) => verify_odds(alloc, options),
         Task::Step(options) => step_odds(alloc, *options),
         _ => Ok(None),
     }
@@ -80,6 +83,18 @@ fn explore_odds(alloc: Global, options: &ExploreOptions<'_>) -> Result<Option<St
             "--runs goes past the last seed, 18446744073709551615\n"
         )?));
     }
+    match options.save {
+        Some(start) if saves_over(start, options.script) => {
+            Ok(Some(would_replace(alloc, "--save", options.script)?))
+        }
+        _ => Ok(None),
+    }
+}
+
+// And of those of `verify`.
+fn verify_odds(alloc: Global, options: &VerifyOptions<'_>) -> Result<Option<String>, AllocError>
+    ensures { IfOk result (λ told. ToldOdds (VerifyOdds options.now) (option_map (λ text. string_bytes text) told)) }
+{
     match options.save {
         Some(start) if saves_over(start, options.script) => {
             Ok(Some(would_replace(alloc, "--save", options.script)?))

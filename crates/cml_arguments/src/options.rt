@@ -3,11 +3,11 @@
 
 ghost use Rattle.std.specs.Prelude.{◌≡◌, ◌<◌, ◌-◌, [], true, is_some, map, IfOk, IsSomeAnd, Some};
 ghost use Rattle.clap.specs.Words.{first_of, found_of, rows_of, subcommand_rows_of};
-ghost use Rattle.cml_arguments.specs.Words.{any_rule, commands, end_rules, explain_rules, explanation, explore_command, file_command, flag_rule, is_complete, is_flagged, is_served, option_number, option_texts, part_command, replay_command, run_command, shrink_command, step_command, trace_command, AreServed, IsEnd, IsExplore, IsFile, IsPart, IsReplay, IsRun, IsShrink, IsStepping, IsTrace, Names};
+ghost use Rattle.cml_arguments.specs.Words.{any_rule, commands, end_rules, explain_rules, explanation, explore_command, file_command, flag_rule, is_complete, is_flagged, is_served, option_number, option_texts, part_command, replay_command, run_command, shrink_command, step_command, trace_command, verify_command, AreServed, IsEnd, IsExplore, IsFile, IsPart, IsReplay, IsRun, IsShrink, IsStepping, IsTrace, IsVerify, Names};
 
 use crate::{
     EndOptions, Explain, ExploreOptions, FileOptions, PartOptions, ReplayOptions, RunOptions,
-    ShrinkOptions, StepOptions, Task, TraceOptions,
+    ShrinkOptions, StepOptions, Task, TraceOptions, VerifyOptions,
 };
 use clap::ArgMatches;
 use std::alloc::{AllocError, Global};
@@ -20,6 +20,9 @@ const DEFAULT_STEPS: u64 = 1_000_000;
 
 // How many runs are made where no number is given.
 const DEFAULT_RUNS: u64 = 100;
+
+// How many states are kept where no number is given.
+const DEFAULT_STATES: u64 = 20_000;
 
 // How many replays a search may take where no number is given.
 const DEFAULT_TRIES: u64 = 10_000;
@@ -43,6 +46,7 @@ pub fn task_of<'a>(alloc: Global, matches: &ArgMatches<'a>) -> Result<Task<'a>, 
         "replay" => Ok(Task::Replay(replay_options(alloc, below)?)),
         "explain" => Ok(Task::Explain(part_options(below))),
         "explore" => Ok(Task::Explore(explore_options(alloc, below)?)),
+        "verify" => Ok(Task::Verify(verify_options(alloc, below)?)),
         "shrink" => Ok(Task::Shrink(shrink_options(below))),
         "draw" => Ok(Task::Draw(part_options(below))),
         "step" => Ok(Task::Step(step_options(below))),
@@ -135,6 +139,20 @@ fn explore_options<'a>(alloc: Global, matches: &ArgMatches<'a>) -> Given<Explore
         save: matches.get_str("save"),
         servers,
         until: matches.get_str("until"),
+    })
+}
+
+// What `verify` was given.
+fn verify_options<'a>(alloc: Global, matches: &ArgMatches<'a>) -> Given<VerifyOptions<'a>>
+    requires { AreServed (rows_of (found_of matches.now)) verify_command.rules }
+    ensures { IfOk result (IsVerify (rows_of (found_of matches.now))) }
+{
+    let servers = texts(alloc, matches, "servers")?;
+    Ok(VerifyOptions {
+        script: given(matches, "FILE"),
+        states: number(matches, "states").unwrap_or(DEFAULT_STATES),
+        save: matches.get_str("save"),
+        servers,
     })
 }
 

@@ -2,7 +2,7 @@
 
 ghost use Rattle.std.specs.Prelude.{◌≡◌, ◌<◌, ◌-◌, [], ◌∷◌, codes, false, true, IfOk};
 ghost use Rattle.clap.specs.Words.{app_of, with_subcommand, App, Rule, Shape};
-ghost use Rattle.cml_arguments.specs.Words.{any_rule, command_of, commands, count_rule, depth_rule, explains, explore_command, file_command, file_rule, flag_rule, list_rule, option_rule, part_command, replay_command, run_command, runs_rule, shrink_command, step_command, trace_command, with_end, with_explain, with_finding, with_order, with_others, with_rule, workers_rule, FollowsRule, IsShapedAs};
+ghost use Rattle.cml_arguments.specs.Words.{any_rule, command_of, commands, count_rule, depth_rule, explains, explore_command, file_command, file_rule, flag_rule, list_rule, option_rule, part_command, replay_command, run_command, runs_rule, shrink_command, states_rule, step_command, trace_command, verify_command, with_end, with_explain, with_finding, with_order, with_others, with_rule, workers_rule, FollowsRule, IsShapedAs};
 
 use clap::{Arg, ArgAction, Command, value_parser};
 use std::alloc::{AllocError, Global};
@@ -21,6 +21,9 @@ const MOST_DEPTH: i64 = 64;
 
 // The most runs that one command makes.
 const MOST_RUNS: i64 = 1_000_000;
+
+// The most states that one command keeps.
+const MOST_STATES: i64 = 100_000_000;
 
 /// The commands of the program.
 ///
@@ -49,6 +52,7 @@ fn others<'a>(alloc: Global, program: Made<'a>) -> Made<'a>
     ensures { (app : App) → IfOk program.entry (λ old. app_of old ≡ app) → IfOk result (λ new. app_of new ≡ with_others app) }
 {
     let program = with_command(program, explore(alloc));
+    let program = with_command(program, verify(alloc));
     let program = with_command(program, shrink(alloc));
     let program = with_command(program, draw(alloc));
     with_command(program, step(alloc))
@@ -193,6 +197,19 @@ fn finding<'a>(alloc: Global, command: Made<'a>) -> Made<'a>
     with_arg(with_arg(with_arg(command, save), servers(alloc)), until)
 }
 
+// The command that examines every schedule of a script.
+fn verify<'a>(alloc: Global) -> Made<'a>
+    ensures { IfOk result (IsShapedAs verify_command) }
+{
+    let about = "Examines every schedule of a script, and says how they end";
+    let states = states(alloc).help("How many states it may keep, 1 to 100000000 [default: 20000]");
+    let save = option(alloc, "save", "PREFIX").help(
+        "Saves the shortest schedule of each kind of end, as PREFIX-1.schedule and so on",
+    );
+    let command = with_arg(on_file(alloc, "verify", about), states);
+    with_arg(with_arg(command, save), servers(alloc))
+}
+
 // The command that looks for a shorter schedule.
 fn shrink<'a>(alloc: Global) -> Made<'a>
     ensures { IfOk result (IsShapedAs shrink_command) }
@@ -304,6 +321,13 @@ fn runs<'a>(alloc: Global) -> Arg<'a>
     ensures { FollowsRule (runs_rule (codes "runs")) result }
 {
     option(alloc, "runs", "N").value_parser(value_parser!(u64).range(1..=MOST_RUNS))
+}
+
+// The option that says how many states are kept.
+fn states<'a>(alloc: Global) -> Arg<'a>
+    ensures { FollowsRule (states_rule (codes "states")) result }
+{
+    option(alloc, "states", "N").value_parser(value_parser!(u64).range(1..=MOST_STATES))
 }
 
 // The option that says how many workers there are.

@@ -104,7 +104,8 @@ pair_there w h i o j e = at (slice_get w.threads h.0) (slice_get w.threads o.0) 
     at : (p q : Option PlainThread) → slice_get w.threads h.0 ≡ p → slice_get w.threads o.0 ≡ q
         → meet_at h.0 o.0 (leaf_of (slice_get w.threads h.0) i) (leaf_of (slice_get w.threads o.0) j) ≡ true → (h.0 < length w.threads) × (o.0 < length w.threads)
     at None q is be e = (let no : meet_at h.0 o.0 (leaf_of None i) (leaf_of (slice_get w.threads o.0) j) ≡ true = rw is at e in cc)
-    at (Some x) None is be e = (let no : meet_at h.0 o.0 (leaf_of (slice_get w.threads h.0) i) (leaf_of None j) ≡ true = rw be at e in let not : meet_at h.0 o.0 (leaf_of (slice_get w.threads h.0) i) None ≡ false = no_second h.0 o.0 _ in
+    at (Some x) None is be e = (let no : meet_at h.0 o.0 (leaf_of (slice_get w.threads h.0) i) (leaf_of None j) ≡ true = rw be at e in
+        let not : meet_at h.0 o.0 (leaf_of (slice_get w.threads h.0) i) None ≡ false = no_second h.0 o.0 _ in
         cc)
     at (Some x) (Some y) is be e = (slice_get_within w.threads h.0 x is, slice_get_within w.threads o.0 y be)
 
@@ -150,30 +151,42 @@ runs-step w command.Spawn t = (let h : Follows command.Spawn w t reply.Thread (s
 runs-step w command.MakeChan t = (let h : Follows command.MakeChan w t reply.Chan (make_chan w) = unless_if (nat_le max_objects w.channels) _ _ (λ _. record { stays = refl }) in h.stays)
 runs-step w command.MakeSwap t = (let h : Follows command.MakeSwap w t reply.Swap (make_swap w) = unless_if (nat_le max_objects w.swaps) _ _ (λ _. record { stays = refl }) in h.stays)
 runs-step w command.MakeIVar t = (let h : Follows command.MakeIVar w t reply.IVar (make_ivar w) = unless_if (nat_le max_objects (length w.ivars)) _ _ (λ _. record { stays = refl }) in h.stays)
-runs-step w (command.MakeMVar v) t = (let h : Follows (command.MakeMVar v) w t reply.MVar (make_mvar w v) = unless_if (not (held_fits v)) _ _ (λ _. unless_if (nat_le max_objects (length w.mvars)) _ _ (λ _. record { stays = refl })) in
+runs-step w (command.MakeMVar v) t = (let h : Follows (command.MakeMVar v) w t reply.MVar (make_mvar w v) = unless_if (not (held_fits v)) _ _ (λ _. unless_if (nat_le max_objects (length w.mvars)) _ _
+    (λ _. record { stays = refl })) in
     h.stays)
 runs-step w command.MakeMailbox t = (let h : Follows command.MakeMailbox w t reply.Mailbox (make_mailbox w) = unless_if (nat_le max_objects (length w.mailboxes)) _ _ (λ _. record { stays = refl }) in
     h.stays)
 runs-step w command.MakeMChan t = (let h : Follows command.MakeMChan w t reply.Mchan (make_mchan w) = unless_if (nat_le max_objects (length w.mchans)) _ _ (λ _. record { stays = refl }) in h.stays)
-runs-step w (command.MakePort x) t = (let h : Follows (command.MakePort x) w t reply.Port (make_port w x.0) = unless_if (not (nat_lt x.0 (length w.mchans))) _ _ (λ _. unless_if (nat_le max_objects (length w.ports)) _ _ (λ _. record { stays = refl })) in
+runs-step w (command.MakePort x) t = (let h : Follows (command.MakePort x) w t reply.Port (make_port w x.0) = unless_if (not (nat_lt x.0 (length w.mchans))) _ _
+    (λ _. unless_if (nat_le max_objects (length w.ports)) _ _ (λ _. record { stays = refl })) in
     h.stays)
-runs-step w (command.CopyPort p) t = (let h : Follows (command.CopyPort p) w t reply.Port (copy_port w p.0) = unless_if (not (nat_lt p.0 (length w.ports))) _ _ (λ _. unless_if (nat_le max_objects (length w.ports)) _ _ (λ _. record { stays = refl })) in
+runs-step w (command.CopyPort p) t = (let h : Follows (command.CopyPort p) w t reply.Port (copy_port w p.0) = unless_if (not (nat_lt p.0 (length w.ports))) _ _
+    (λ _. unless_if (nat_le max_objects (length w.ports)) _ _ (λ _. record { stays = refl })) in
     h.stays)
-runs-step w (command.IPut i v) t = (let h : Follows (command.IPut i v) w t (λ _. reply.Done) (iput w i.0 v) = unless_if (not (nat_lt i.0 (length w.ivars))) _ _ (λ _. unless_if (is_full (slice_get w.ivars i.0)) _ _ (λ _. unless_if (not (value_fits v)) _ _ (λ _. record { stays = refl }))) in
+runs-step w (command.IPut i v) t = (let h : Follows (command.IPut i v) w t (λ _. reply.Done) (iput w i.0 v) = unless_if (not (nat_lt i.0 (length w.ivars))) _ _
+    (λ _. unless_if (is_full (slice_get w.ivars i.0)) _ _ (λ _. unless_if (not (value_fits v)) _ _ (λ _. record { stays = refl }))) in
     h.stays)
-runs-step w (command.MPut m v) t = (let h : Follows (command.MPut m v) w t (λ _. reply.Done) (mput w m.0 v) = unless_if (not (nat_lt m.0 (length w.mvars))) _ _ (λ _. unless_if (is_full (slice_get w.mvars m.0)) _ _ (λ _. unless_if (not (value_fits v)) _ _ (λ _. record { stays = refl }))) in
+runs-step w (command.MPut m v) t = (let h : Follows (command.MPut m v) w t (λ _. reply.Done) (mput w m.0 v) = unless_if (not (nat_lt m.0 (length w.mvars))) _ _
+    (λ _. unless_if (is_full (slice_get w.mvars m.0)) _ _ (λ _. unless_if (not (value_fits v)) _ _ (λ _. record { stays = refl }))) in
     h.stays)
-runs-step w (command.Mail b v) t = (let h : Follows (command.Mail b v) w t (λ _. reply.Done) (mail w b.0 v) = unless_if (not (nat_lt b.0 (length w.mailboxes))) _ _ (λ _. unless_if (not (value_fits v)) _ _ (λ _. unless_if (is_full_at w.mailboxes b.0) _ _ (λ _. record { stays = refl }))) in
+runs-step w (command.Mail b v) t = (let h : Follows (command.Mail b v) w t (λ _. reply.Done) (mail w b.0 v) = unless_if (not (nat_lt b.0 (length w.mailboxes))) _ _
+    (λ _. unless_if (not (value_fits v)) _ _ (λ _. unless_if (is_full_at w.mailboxes b.0) _ _ (λ _. record { stays = refl }))) in
     h.stays)
-runs-step w (command.Multicast x v) t = (let h : Follows (command.Multicast x v) w t (λ _. reply.Done) (multicast w x.0 v) = unless_if (not (nat_lt x.0 (length w.mchans))) _ _ (λ _. unless_if (not (value_fits v)) _ _ (λ _. unless_if (any_is_full (ports_at w.mchans x.0) w.ports) _ _ (λ _. record { stays = refl }))) in
+runs-step w (command.Multicast x v) t = (let h : Follows (command.Multicast x v) w t (λ _. reply.Done) (multicast w x.0 v) = unless_if (not (nat_lt x.0 (length w.mchans))) _ _
+    (λ _. unless_if (not (value_fits v)) _ _ (λ _. unless_if (any_is_full (ports_at w.mchans x.0) w.ports) _ _ (λ _. record { stays = refl }))) in
     h.stays)
-runs-step w (command.Nack u) t = (let h : Follows (command.Nack u) w t reply.Nack (nack w u.0) = unless_by (thread_refusal (slice_get w.threads u.0)) _ (unless_if (nat_le max_objects (length w.nacks)) _ _ (λ _. record { stays = refl })) in
+runs-step w (command.Nack u) t = (let h : Follows (command.Nack u) w t reply.Nack (nack w u.0) = unless_by (thread_refusal (slice_get w.threads u.0)) _ (unless_if (nat_le max_objects
+    (length w.nacks)) _ _ (λ _. record { stays = refl })) in
     h.stays)
-runs-step w (command.Sync u g) t = (let h : Follows (command.Sync u g) w t (λ _. reply.Done) (sync w u.0 g) = unless_by (sync_refusal w u.0 g) _ (record { stays = stopped w.threads u.0 t (pending_on (entered w.tick g)) refl }) in
+runs-step w (command.Sync u g) t = (let h : Follows (command.Sync u g) w t
+    (λ _. reply.Done) (sync w u.0 g) = unless_by (sync_refusal w u.0 g) _ (record { stays = stopped w.threads u.0 t (pending_on (entered w.tick g)) refl }) in
     h.stays)
-runs-step w (command.Commit row) t = (let h : Follows (command.Commit row) w t reply.Committed (commit w row) = unless_if (not (has_row (scan w) row)) _ _ (λ e. record { stays = committed w row t (was_true (has_row (scan w) row) e) }) in
+runs-step w (command.Commit row) t = (let h : Follows (command.Commit row) w t reply.Committed (commit w row) = unless_if (not (has_row (scan w) row)) _ _
+    (λ e. record { stays = committed w row t (was_true (has_row (scan w) row) e) }) in
     h.stays)
-runs-step w (command.End u) t = (let h : Follows (command.End u) w t (λ _. reply.Done) (end w u.0) = unless_by (thread_refusal (slice_get w.threads u.0)) _ (record { stays = stopped w.threads u.0 t ended refl }) in
+runs-step w (command.End u) t = (let h : Follows (command.End u) w t
+    (λ _. reply.Done) (end w u.0) = unless_by (thread_refusal (slice_get w.threads u.0)) _ (record { stays = stopped w.threads u.0 t ended refl }) in
     h.stays)
-runs-step w (command.Clock k) t = (let h : Follows (command.Clock k) w t (λ _. reply.Done) (clock w k) = unless_if (nat_lt k w.tick) _ _ (λ _. unless_if (nat_lt max_tick k) _ _ (λ _. record { stays = refl })) in
+runs-step w (command.Clock k) t = (let h : Follows (command.Clock k) w t (λ _. reply.Done) (clock w k) = unless_if (nat_lt k w.tick) _ _ (λ _. unless_if (nat_lt max_tick k) _ _
+    (λ _. record { stays = refl })) in
     h.stays)

@@ -1,10 +1,10 @@
 //! The book.
 
-ghost use Rattle.std.specs.Prelude.{◌≡◌, ◌≢◌, ◌≤◌, ℕ, IfOk, IfSome, IfNone, OnOk, OnErr, IsTrue, Err, true, false, map, length, option_map, slice_get};
+ghost use Rattle.std.specs.Prelude.{◌≡◌, ◌≢◌, ◌≤◌, ℕ, IfOk, IfSome, IfNone, OnOk, OnErr, IsTrue, Some, None, Err, true, false, map, length, option_map, slice_get};
 ghost use Rattle.std.specs.Option.{option_copied, option_and_then};
 ghost use Rattle.cml_scan.specs.{World.{pending}, Light.{light_of}, Views.{nack_of}, Scan.{scan, scan_of, has_row}};
 ghost use Rattle.cml_book.specs.{Step.{empty_world}, Outcomes.{Does}, Spawn.{spawn as spawned}, MakeChan.{make_chan as made}};
-ghost use Rattle.cml_book.specs.{MakeSwap.{make_swap as swap_made}, Commit.{is_reading}, Clock.{IsAlarm}, Threads.{flat_of}, Holding.{value_at}};
+ghost use Rattle.cml_book.specs.{MakeSwap.{make_swap as swap_made}, Commit.{is_reading}, Clock.{IsAlarm}, Threads.{flat_of}, Holding.{item_in, value_at}};
 ghost use Rattle.cml_book.specs.{Walks.{is_running}, Entering.{max_tick}};
 ghost use Rattle.cml_book.specs.Nack as nack_spec;
 ghost use Rattle.cml_book.specs.Sync as sync_spec;
@@ -15,14 +15,14 @@ ghost use Rattle.cml_book.specs.Clock as clock_spec;
 
 use crate::command::{Committed, Resume};
 use crate::fullness::{mailbox_len, nack_state, port_len};
-use crate::holding::NextObjects;
+use crate::holding::{NextObjects, mail_item, message, ports_of};
 use crate::nacks::make_room;
 use crate::refusal::{Fault, Refusal};
 use crate::state::State;
 use crate::walk::MAX_TICK;
 use cml_channel::hands;
 use cml_scan::{Light, Lights, Meet, NackState, Table};
-use cml_value::{ChanId, Group, MboxId, NackId, PortId, SwapId, Tid, Value};
+use cml_value::{ChanId, Group, MboxId, McastId, NackId, PortId, SwapId, Tid, Value};
 use std::alloc::{AllocError, Global};
 use std::marker::Model;
 
@@ -34,7 +34,6 @@ pub const MAX_OBJECTS: usize = 65_536;
 
 /// The threads and objects of a Concurrent ML program, with the table of the communications that are possible among its pending
 /// threads.
-#[derive(Drop)]
 pub struct Book<T: Table> {
     pub(crate) state: State,
     pub(crate) table: T,
@@ -42,6 +41,22 @@ pub struct Book<T: Table> {
     // those that are turned off or are found not lit.
     lit: Vec<Light>,
     unlit: Vec<Light>,
+}
+
+// Written out, so that how the parts are dropped is proved once, and whoever drops one calls this.
+impl<T: Table + Drop> Drop for Book<T> {
+    fn drop(self) {
+        let Book {
+            state,
+            table,
+            lit,
+            unlit,
+        } = self;
+        drop(state);
+        drop(table);
+        drop(lit);
+        drop(unlit);
+    }
 }
 
 impl<T: Table> Model for Book<T> {
@@ -344,6 +359,28 @@ impl<T: Table> Book<T> {
         ensures { result ≡ option_map length (slice_get self.now.ports port.0) }
     {
         port_len(&self.state.ports, port)
+    }
+
+    /// Item `n` of the mailbox, the first being 0, if there is such a mailbox and it has so many.
+    pub fn mailbox_item(&self, mailbox: MboxId, n: usize) -> Option<&Value>
+        ensures { option_copied result ≡ item_in n (slice_get self.now.mailboxes mailbox.0) }
+    {
+        mail_item(&self.state.mailboxes, mailbox, n)
+    }
+
+    /// Unread message `n` of the port, the first being 0, if there is such a port and it has so many.
+    pub fn port_item(&self, port: PortId, n: usize) -> Option<&Value>
+        ensures { option_copied result ≡ item_in n (slice_get self.now.ports port.0) }
+    {
+        message(&self.state.ports, port, n)
+    }
+
+    /// The ports of the multicast channel, ascending, if there is such a channel.
+    pub fn ports(&self, channel: McastId) -> Option<&[PortId]>
+        ensures some { IfSome result (λ ports. slice_get self.now.mchans channel.0 ≡ Some (map (λ p. p.0) ports.now)) }
+        ensures none { IfNone result (slice_get self.now.mchans channel.0 ≡ None) }
+    {
+        ports_of(&self.state.mchans, channel)
     }
 
     /// The state of the nack, if there is such a one.

@@ -1,11 +1,11 @@
 //! The values that objects hold, and the numbers of the next ones.
 
-ghost use Rattle.std.specs.{Prelude.{◌≡◌, length, slice_get}, Option.{option_copied}};
-ghost use Rattle.cml_book.specs.{Commit.{held_in}, Holding.{first_in, value_at}, Views.{queues_of}};
+ghost use Rattle.std.specs.{Prelude.{◌≡◌, Some, None, IfSome, IfNone, length, map, slice_get}, Option.{option_copied}};
+ghost use Rattle.cml_book.specs.{Commit.{held_in}, Holding.{first_in, item_in, value_at}, Views.{queues_of, ports_of as all_ports_of}};
 
 use crate::state::State;
 use cml_base::Register;
-use cml_queues::{Mailbox, Port};
+use cml_queues::{Mailbox, Multicast, Port};
 use cml_scan::Light;
 use cml_syncvar::{IVar, MVar};
 use cml_value::{ChanId, IVarId, MVarId, MboxId, McastId, PortId, SwapId, Value};
@@ -62,6 +62,37 @@ impl State {
             Light::Port(p) => first_message(&self.ports, p),
             Light::Joined(_) | Light::Alarm(_) | Light::Nack(_) => None,
         }
+    }
+}
+
+/// Item `n` of the mailbox, if there is such a one and it has so many.
+pub fn mail_item(mailboxes: &Register<Mailbox>, id: MboxId, n: usize) -> Option<&Value>
+    ensures { option_copied result ≡ item_in n (slice_get (queues_of mailboxes.now.objects) id.0) }
+{
+    match mailboxes.get(id.0) {
+        Some(mailbox) => mailbox.item(n),
+        None => None,
+    }
+}
+
+/// Unread message `n` of the port, if there is such a one and it has so many.
+pub fn message(ports: &Register<Port>, id: PortId, n: usize) -> Option<&Value>
+    ensures { option_copied result ≡ item_in n (slice_get (queues_of ports.now.objects) id.0) }
+{
+    match ports.get(id.0) {
+        Some(port) => port.item(n),
+        None => None,
+    }
+}
+
+/// The ports of the multicast channel, if there is such a one.
+pub fn ports_of(channels: &[Multicast], id: McastId) -> Option<&[PortId]>
+    ensures some { IfSome result (λ ports. slice_get (all_ports_of channels.now) id.0 ≡ Some (map (λ p. p.0) ports.now)) }
+    ensures none { IfNone result (slice_get (all_ports_of channels.now) id.0 ≡ None) }
+{
+    match channels.get(id.0 as usize) {
+        Some(channel) => Some(channel.ports()),
+        None => None,
     }
 }
 

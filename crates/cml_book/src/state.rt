@@ -21,7 +21,6 @@ use std::alloc::{AllocError, Global};
 use std::marker::Model;
 
 /// The world of a book: what its threads do, and what its objects hold.
-#[derive(Drop)]
 pub struct State {
     pub(crate) threads: Vec<Thread>,
     pub(crate) channels: u32,
@@ -38,6 +37,36 @@ pub struct State {
     pub(crate) marks: NackMarks,
     // the time, and how many leaves of pending threads wait for each tick
     pub(crate) clock: Clock,
+}
+
+// Written out, so that how the parts are dropped is proved once, and whoever drops one calls this.
+impl Drop for State {
+    fn drop(self) {
+        let State {
+            threads,
+            channels: _,
+            swaps: _,
+            ivars,
+            mvars,
+            mailboxes,
+            mchans,
+            ports,
+            port_channels,
+            nacks,
+            marks,
+            clock,
+        } = self;
+        drop(threads);
+        drop(ivars);
+        drop(mvars);
+        drop(mailboxes);
+        drop(mchans);
+        drop(ports);
+        drop(port_channels);
+        drop(nacks);
+        drop(marks);
+        drop(clock);
+    }
 }
 
 impl Model for State {

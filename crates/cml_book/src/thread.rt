@@ -12,9 +12,16 @@ use std::marker::Model;
 use std::mem;
 
 /// A thread.
-#[derive(Drop)]
 pub struct Thread {
     doing: Doing,
+}
+
+// Written out, so that how the parts are dropped is proved once, and whoever drops one calls this.
+impl Drop for Thread {
+    fn drop(self) {
+        let Thread { doing } = self;
+        drop(doing);
+    }
 }
 
 #[derive(Drop)]

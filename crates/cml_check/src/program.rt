@@ -15,13 +15,29 @@ use std::sync::Arc;
 
 /// A function: its name, the names of its slots, its parameters first, how many of them are parameters, and its statements. Its
 /// instructions are those of its statements.
-#[derive(Drop)]
 pub struct Function {
     pub(crate) name: String,
     pub(crate) names: Vec<String>,
     pub(crate) arity: u32,
     pub(crate) body: Block,
     code: Vec<Instr>,
+}
+
+// Written out, so that how the parts are dropped is proved once, and whoever drops one calls this.
+impl Drop for Function {
+    fn drop(self) {
+        let Function {
+            name,
+            names,
+            arity: _,
+            body,
+            code,
+        } = self;
+        drop(name);
+        drop(names);
+        drop(body);
+        drop(code);
+    }
 }
 
 impl Model for Function {
@@ -91,11 +107,22 @@ impl Function {
 }
 
 /// A program in which each function, each slot and each number of values is in order, and which has a `main`. Its copies share it.
-#[derive(Drop)]
 pub struct Prog {
     shared: Arc<Vec<Function>>,
     main: u32,
     statements: u32,
+}
+
+// Written out, so that how the parts are dropped is proved once, and whoever drops one calls this.
+impl Drop for Prog {
+    fn drop(self) {
+        let Prog {
+            shared,
+            main: _,
+            statements: _,
+        } = self;
+        drop(shared);
+    }
 }
 
 impl Model for Prog {

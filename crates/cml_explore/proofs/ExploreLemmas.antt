@@ -72,7 +72,7 @@ pub same_parts : (cs ds : List PlainClass) (m n : ℕ) (a b : Bool) → cs ≡ d
     → the_parts cs m a ≡ the_parts ds n b
 same_parts cs ds m n a b e f g = cc
 
-gathered_more : (first : ℕ) (es : List PlainEnded) (n : ℕ) (e : PlainEnded) → n ≡ first + length es → gathered first (es ++ e ∷ []) ≡ with_ended n e (gathered first es)
+pub gathered_more : (first : ℕ) (es : List PlainEnded) (n : ℕ) (e : PlainEnded) → n ≡ first + length es → gathered first (es ++ e ∷ []) ≡ with_ended n e (gathered first es)
 gathered_more first es n e at =
     let finishes = map (λ (x : PlainEnded). x.finish) es in
     let long : length finishes ≡ length es = map_long es in
@@ -102,7 +102,7 @@ few_all n seed (e ∷ ends) cs m at few =
     few_all (n + 1) (suc seed) ends (classed seed e cs) m next (few_classed n seed e cs few)
 
 -- the class of most runs has no more than there were
-few_gathered : (first : ℕ) (ends : List PlainEnded) → All (λ (x : PlainClass). x.summary.runs ≤ length ends) (gathered first ends).classes
+pub few_gathered : (first : ℕ) (ends : List PlainEnded) → All (λ (x : PlainClass). x.summary.runs ≤ length ends) (gathered first ends).classes
 few_gathered first ends =
     let long : length (map (λ (x : PlainEnded). x.finish) ends) ≡ length ends = map_long ends in
     let many : length ends ≡ 0 + length (map (λ (x : PlainEnded). x.finish) ends) = omega (arith, long) in

@@ -9,3 +9,4 @@ pub mod SightLemmas
 pub mod RankLemmas
 pub mod LawLemmas
 pub mod ToldLemmas
+pub mod EndLemmas

@@ -37,8 +37,11 @@ pub record PlainEnded : Type 0 where
   pub fate : Fate
 
 -- nothing was left to do, no thread waits but servers, and none ended at a fault
+abbrev pub is_good : Fate → Bool
+is_good f = is_quiet f.end && not f.held_up && (f.faults == 0)
+
 abbrev pub is_well : PlainEnded → Bool
-is_well e = is_quiet e.fate.end && not e.fate.held_up && (e.fate.faults == 0)
+is_well e = is_good e.fate
 
 abbrev pub is_used : End → Bool
 is_used end.Quiet = false

@@ -5,6 +5,7 @@ pub mod Merges
 pub mod Sights
 pub mod Ranks
 pub mod Told
+pub mod Ends
 pub mod SightViews
 pub mod ClassViews
 pub mod Laws

@@ -62,8 +62,8 @@ impl Model for Explored {
 }
 
 // Whether a run of this fate ended well.
-fn is_well(fate: Fate) -> bool
-    ensures { (e : PlainEnded) → e.fate ≡ fate → result ≡ spec.is_well e }
+pub(crate) fn is_well(fate: Fate) -> bool
+    ensures { result ≡ spec.is_good fate }
 {
     fate.end == End::Quiet && !fate.held_up && fate.faults == 0
 }
@@ -108,7 +108,7 @@ impl Explored {
     }
 
     // One run more, by this seed, which has ended where this hub stands. Returns whether it is one at which to stop.
-    fn add_hub(
+    pub(crate) fn add_hub(
         &mut self,
         alloc: Global,
         asked: &Asked<'_>,

@@ -3,6 +3,7 @@
 
 mod answer;
 mod classes;
+mod ends;
 mod explored;
 mod finish;
 pub mod law;
@@ -17,8 +18,9 @@ mod words;
 pub use answer::explain_runs;
 pub use classes::{Class, Classes};
 pub use cml_seed::Order;
+pub use ends::{EndTold, EndsTold, gather_ends, tell_ends};
 pub use explored::{Asked, Explored, Until, explore};
 pub use summary::Summary;
 pub use tell::tell_runs;
 pub use told::{ClassTold, RunTold, RunsTold, ThreadLeft, ThreadState};
-pub use words::write_runs;
+pub use words::{write_ends, write_runs};

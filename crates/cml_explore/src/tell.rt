@@ -91,7 +91,11 @@ fn run_count(threads: &[ThreadLeft]) -> usize
 }
 
 // What is told of the run of this hub.
-fn run_told(alloc: Global, places: &[Vec<Place>], hub: &Hub) -> Result<RunTold, AllocError>
+pub(crate) fn run_told(
+    alloc: Global,
+    places: &[Vec<Place>],
+    hub: &Hub,
+) -> Result<RunTold, AllocError>
     ensures { IfOk result (λ told. IsRunTold (map (λ own. own.items) places.now) hub.now told) }
 {
     let threads = threads_told(alloc, places, hub)?;

@@ -1,5 +1,6 @@
 //! What is told of many runs, in words.
 
+use crate::ends::{EndTold, EndsTold};
 use crate::told::{ClassTold, RunTold, RunsTold, ThreadLeft, ThreadState};
 use cml_ending::{Stands, push_awaited, push_many, push_named, push_number};
 use cml_fault::push_reason;
@@ -196,6 +197,19 @@ fn push_thread(
     out.extend_from_slice(b"\n")
 }
 
+// Appends the lines of the threads of a run.
+fn push_threads(
+    alloc: Global,
+    out: &mut Vec<u8>,
+    forms: &[Sexpr],
+    run: &RunTold,
+) -> Result<(), AllocError> {
+    for left in &run.threads {
+        push_thread(alloc, out, forms, left)?;
+    }
+    Ok(())
+}
+
 // Appends the lines of a class: its own, and those of the threads of its first run.
 fn push_class(
     alloc: Global,
@@ -207,10 +221,7 @@ fn push_class(
     push_end(alloc, out, widths, class)?;
     push_outputs(alloc, out, widths.outputs, class.outputs)?;
     push_first(alloc, out, class)?;
-    for left in &class.run.threads {
-        push_thread(alloc, out, forms, left)?;
-    }
-    Ok(())
+    push_threads(alloc, out, forms, &class.run)
 }
 
 // Appends by which seeds the runs were made.
@@ -250,6 +261,54 @@ pub fn write_runs(
     let widths = widths_of(alloc, classes)?;
     for class in classes {
         push_class(alloc, out, forms, widths, class)?;
+    }
+    Ok(())
+}
+
+// How wide the column of ends is: as wide as what is widest in it.
+fn end_width(alloc: Global, ends: &[EndTold]) -> Result<usize, AllocError> {
+    let mut width = 0;
+    for end in ends {
+        let words = end_words(alloc, &end.run)?;
+        width = width.max(words.len());
+    }
+    Ok(width)
+}
+
+// Appends the lines of a class of ends: its own, and those of the threads of the run by its shortest schedule.
+fn push_told(
+    alloc: Global,
+    out: &mut Vec<u8>,
+    forms: &[Sexpr],
+    width: usize,
+    end: &EndTold,
+) -> Result<(), AllocError> {
+    let words = end_words(alloc, &end.run)?;
+    push_at_left(alloc, out, width, words.as_slice())?;
+    out.extend_from_slice(b"   shortest: ")?;
+    push_many(alloc, out, " item", " items", end.items as u64)?;
+    out.extend_from_slice(b"\n")?;
+    push_threads(alloc, out, forms, &end.run)
+}
+
+/// Appends what is told of the ends of the script that has these forms: the classes of those that ended alike, each with the threads that are
+/// left in the run by its shortest schedule or ended at a fault in it.
+///
+/// # Errors
+/// Out of memory.
+pub fn write_ends(
+    alloc: Global,
+    out: &mut Vec<u8>,
+    forms: &[Sexpr],
+    told: &EndsTold,
+) -> Result<(), AllocError> {
+    let classes = told.classes.as_slice();
+    let width = end_width(alloc, classes)?;
+    for number in &told.order {
+        match classes.get(*number) {
+            Some(end) => push_told(alloc, out, forms, width, end)?,
+            None => {}
+        }
     }
     Ok(())
 }

@@ -1,24 +1,29 @@
 -- Runs that were closed, and what a schedule led to.
-use Rattle.std.proofs.Common.{◌≡◌, ◌∙◌, ◌⊎◌, ◌&&◌, ◌||◌, ℕ, Bool, true, false, List, [], Option, Some, None, is_some, Result, Ok, Err, IfOk, ap, inl, inr, refl, subst, sym}
-use Rattle.std.proofs.KnownBytes.{Appends-nil}
+use Rattle.std.proofs.Common.{◌≡◌, ◌∙◌, ◌&&◌, ◌||◌, ◌++◌, ◌∷◌, ℕ, Bool, true, false, List, [], Option, Some, None, Vec, is_some, map, Result, Ok, Err, IfOk, IfErr, ap, inl, inr, refl, subst, sym}
 use Rattle.std.proofs.Math.Path.{fun_ext}
+use Rattle.std.specs.declared.alloc.Global.{Global}
+use Rattle.cml_check.specs.Sizes.{size_of}
 use Rattle.cml_check.specs.Syntax.{PlainItem}
 use Rattle.cml_hub.specs.Courses.{run_of}
 use Rattle.cml_hub.specs.Kept.{Kept, IsAtStart}
-use Rattle.cml_monitor.specs.Reports.{PlainReport}
+use Rattle.cml_schedule.specs.Written.{schedule_text}
 use Rattle.cml_schedule.specs.declared.item.Item.{Item}
-use Rattle.cml_stream.specs.Streams.{Counted, counted_stream, Says}
 use Rattle.cml_arguments.specs.declared.ReplayOptions.{ReplayOptions}
-use Rattle.cml_host.specs.Closed.{PlainAsked, IsClosed, IsClosing, IsHubAt, SaysEnd, closing_status, plain_asked}
-use Rattle.cml_host.specs.Replaying.{IsHubOf, ReplayTold, ScheduleOutcome, ScriptReplayed, replay_asked}
+use Rattle.cml_host.specs.Behind.{RepliesAfter}
+use Rattle.cml_host.specs.Closed.{PlainAsked, IsClosed, IsClosing, IsHubAt, MaySay, closing_status, plain_asked, schedule_file}
+use Rattle.cml_host.specs.Replaying.{IsHubOf, IsReplayReply, ReplayTold, ScheduleOutcome, ScriptReplayed, replay_asked}
+use Rattle.cml_host.specs.Replies.{File, IsCarriedOut, Moment, Passage, Replies, behind, broken, file, plain_file, plain_of, plain_refusal, plain_reply, since, upto}
 use Rattle.cml_host.specs.Servers.{first_unknown, server_numbers, server_names}
 use Rattle.cml_host.specs.Scripts.{PlainScript}
 use Rattle.cml_host.specs.Stores.{Content, Shelf, IsUnchanged}
-use Rattle.cml_host.specs.Told.{IsRunOf, AllReported, whole_output, IsTold, IsNotTold}
+use Rattle.cml_host.specs.Told.{IsRunOf, AllReported, AreCut, AreTold, whole_output}
 use Rattle.cml_host.specs.declared.close.Asked.{Asked}
 use Rattle.cml_host.specs.declared.close.Closing.{Closing}
 use Rattle.cml_host.specs.declared.close.Subject.{Subject}
-use Rattle.cml_host.proofs.TellLemmas.{closed_behind}
+use Rattle.cml_host.specs.declared.refusal.Refusal.{Refusal}
+use Rattle.cml_host.specs.declared.refusal.Refusal.TheVariants.{Memory}
+use Rattle.cml_host.specs.declared.reply.File as code
+use Rattle.cml_host.specs.declared.reply.Reply.{Reply}
 
 -- the hub's run is one of this program
 pub run_is : (p : List (PlainItem ℕ)) (watch : Option ℕ) (items : List Item) (h : Kept) → h.course.program ≡ p → h.watch ≡ watch → h.course.items ≡ items →
@@ -45,29 +50,32 @@ and_true : (e : Bool) → e ≡ e && true
 and_true true = refl
 and_true false = refl
 
-and_false : (e : Bool) → false ≡ e && false
-and_false true = refl
-and_false false = refl
+may_nothing : (explains : Bool) → MaySay explains []
+may_nothing true = tt
+may_nothing false = refl
+
+-- any words may be said where it is explained, and none anywhere
+pub may_any : {E : Type 0} (explains : Bool) (r : Result (Vec ℕ Global) E) → explains ≡ true → IfOk r (λ words. MaySay explains words.items)
+may_any explains (Ok words) so = subst (λ (b : Bool). MaySay b words.items) (sym so) tt
+may_any explains (Err e) so = tt
+
+pub may_none : (explains : Bool) (words : Vec ℕ Global) → words.items ≡ [] → MaySay explains words.items
+may_none explains words none = subst (MaySay explains) (sym none) (may_nothing explains)
 
 -- a run of a script that is kept was closed
 pub closing_kept : {E : Type 0} (r : Result Closing E) (a : Asked) (h : Kept) (s : Subject) (status : ℕ) → a.subject ≡ Some s → status ≡ closing_status (plain_asked a) h →
-    IfOk r (λ closing. (closing.status ≡ status) × (is_some closing.words ≡ a.explains)) → IfOk r (IsClosing (plain_asked a) h)
+    IfOk r (λ closing. (closing.status ≡ status) × MaySay a.explains closing.words.items) → IfOk r (IsClosing (plain_asked a) h)
 closing_kept (Ok closing) a h s status kept is made =
-    record { status = made.0 ∙ is; words = made.1 ∙ (and_true a.explains ∙ ap (λ (b : Bool). a.explains && b) (sym (ap is_some kept))) }
+    record {
+      status = made.0 ∙ is;
+      words = subst (λ (b : Bool). MaySay b closing.words.items) (and_true a.explains ∙ ap (λ (b : Bool). a.explains && b) (sym (ap is_some kept))) made.1;
+    }
 closing_kept (Err e) a h s status kept is made = tt
 
 -- the same of one that is not kept
-pub closing_alone : (a : Asked) (h : Kept) (closing : Closing) → a.subject ≡ None → closing.status ≡ closing_status (plain_asked a) h → closing.words ≡ None →
-    IsClosing (plain_asked a) h closing
-closing_alone a h closing kept is none =
-    record { status = is; words = ap is_some none ∙ (and_false a.explains ∙ ap (λ (b : Bool). a.explains && b) (sym (ap is_some kept))) }
-
--- what is said of the end
-pub says_end : {A : Type 0} (o : Option A) (x : A) (errors : Counted) (told : List ℕ) → o ≡ Some x → Says errors told → SaysEnd (is_some o) errors
-says_end o x errors told is said = subst (λ (w : Option _). SaysEnd (is_some w) errors) (sym is) (told, said)
-
-pub says_nothing : {A : Type 0} (o : Option A) (a : Option (List ℕ)) (calls failed : ℕ) → o ≡ None → failed ≡ 0 → SaysEnd (is_some o) (counted_stream a a calls failed)
-says_nothing o a calls failed is good = subst (λ (w : Option _). SaysEnd (is_some w) (counted_stream a a calls failed)) (sym is) (Appends-nil a, good)
+pub closing_alone : (a : Asked) (h : Kept) (closing : Closing) → closing.status ≡ closing_status (plain_asked a) h → closing.words.items ≡ [] → IsClosing (plain_asked a) h closing
+closing_alone a h closing is none =
+    record { status = is; words = subst (λ (ts : List ℕ). MaySay (a.explains && is_some a.subject) ts) (sym none) (may_nothing (a.explains && is_some a.subject)) }
 
 -- ---- the end of a run
 
@@ -75,35 +83,40 @@ says_nothing o a calls failed is good = subst (λ (w : Option _). SaysEnd (is_so
 stands_itself : (h : Kept) → IsHubAt h.course.program h.budget h.course.items (run_of h.course) h
 stands_itself h = record { program = refl; budget_is = refl; items_are = refl; run_is = refl }
 
--- all was told of it, and then how it ended
-pub closed_hub : (asked : PlainAsked) (h : Kept) (closing : Closing) (reports : List PlainReport) (output : Counted) (a b d : Option (List ℕ)) (before broke after failed status : ℕ) →
-    IsClosing asked h closing → IsTold reports (whole_output h.budget (run_of h.course)) output (counted_stream a b before broke) →
-    SaysEnd (is_some closing.words) (counted_stream b d after failed) → status ≡ closing.status →
-    IsClosed asked h.course.program h.course.items reports h.budget (run_of h.course) output (counted_stream a d after failed) status
-closed_hub asked h closing reports output a b d before broke after failed status is told said ends = (
-  h,
-  stands_itself h,
-  closed_behind a b d asked.explains reports (whole_output h.budget (run_of h.course)) output before broke after failed told
-      (subst (λ (e : Bool). SaysEnd e (counted_stream b d after failed)) is.words said),
-  ends ∙ is.status,
-)
+-- its output is told with the end line, its schedule is saved, and then it is said how it ended
+pub closed_as : (asked : PlainAsked) (save_as : Option (List ℕ)) (h : Kept) (closing : Closing) (reply : Reply) →
+    h.course.output ++ reply.output.items ≡ whole_output h.budget (run_of h.course) →
+    map plain_file reply.files.items ≡ schedule_file asked.explains save_as (schedule_text h.budget (size_of h.course.program) h.course.items) → IsClosing asked h closing →
+    reply.words ≡ closing.words → reply.status ≡ closing.status →
+    IsClosed asked save_as h.course.program h.course.items h.budget (run_of h.course) (behind h.course.output (plain_of reply))
+closed_as asked save_as h closing reply whole files closes words status =
+    (h, stands_itself h, whole, files, subst (λ (ts : Vec ℕ Global). MaySay asked.explains ts.items) (sym words) closes.words, status ∙ closes.status)
+
+-- the schedule is saved as the one file
+pub one_scheduled : {E : Type 0} (r : Result (Vec code.File Global) E) (f : code.File) (explains : Bool) (save_as : Option (List ℕ)) (name bytes schedule : List ℕ) →
+    save_as ≡ Some name → plain_file f ≡ file explains name bytes → bytes ≡ schedule → IfOk r (λ files. files.items ≡ f ∷ []) →
+    IfOk r (λ files. map plain_file files.items ≡ schedule_file explains save_as schedule)
+one_scheduled (Ok files) f explains save_as name bytes schedule named is same one =
+    ap (map plain_file) one
+    ∙ (ap (λ (x : File). x ∷ []) (is ∙ ap (file explains name) same) ∙ ap (λ (o : Option (List ℕ)). schedule_file explains o schedule) (sym named))
+one_scheduled (Err e) f explains save_as name bytes schedule named is same one = tt
 
 -- ---- replay
 
--- what was told of a hub was told of the run of a program where it stands
-closed_of : (asked : PlainAsked) (p : List (PlainItem ℕ)) (budget : ℕ) (items : List Item) (h : Kept) (output errors : Counted) (status : ℕ) →
+-- what is told of a hub is told of the run of a program where it stands
+told_of : (asked : PlainAsked) (p : List (PlainItem ℕ)) (budget : ℕ) (items : List Item) (h : Kept) (output errors : Passage) (store : Shelf) (status : ℕ) →
     h.course.program ≡ p → h.budget ≡ budget → h.course.items ≡ items →
-    IsClosed asked h.course.program h.course.items h.reports h.budget (run_of h.course) output errors status →
-    IsClosed asked p items h.reports budget (run_of h.course) output errors status
-closed_of asked p budget items h output errors status program budget_is items_are closed =
-    subst (λ (b : ℕ). IsClosed asked p items h.reports b (run_of h.course) output errors status) budget_is
-    (subst (λ (ts : List Item). IsClosed asked p ts h.reports h.budget (run_of h.course) output errors status) items_are
-    (subst (λ (q : List (PlainItem ℕ)). IsClosed asked q h.course.items h.reports h.budget (run_of h.course) output errors status) program closed))
-
-pub scheduled : (asked : PlainAsked) (p : List (PlainItem ℕ)) (watch : Option ℕ) (name : List ℕ) (content : Content) (h : Kept) (output errors : Counted) (status : ℕ) →
-    IsHubOf p watch content h → ReplayTold asked h output errors status → ScheduleOutcome asked p watch name content output errors status
-scheduled asked p watch name content h output errors status (plan, fits, made) (run, told) =
+    RepliesAfter (IsReplayReply asked h.course.program h.budget h.course.items h.reports (run_of h.course)) output errors store status →
+    RepliesAfter (IsReplayReply asked p budget items h.reports (run_of h.course)) output errors store status
+told_of asked p budget items h output errors store status program budget_is items_are told =
     let r = run_of h.course in
+    subst (λ (b : ℕ). RepliesAfter (IsReplayReply asked p b items h.reports r) output errors store status) budget_is
+    (subst (λ (ts : List Item). RepliesAfter (IsReplayReply asked p h.budget ts h.reports r) output errors store status) items_are
+    (subst (λ (q : List (PlainItem ℕ)). RepliesAfter (IsReplayReply asked q h.budget h.course.items h.reports r) output errors store status) program told))
+
+pub scheduled : (asked : PlainAsked) (p : List (PlainItem ℕ)) (watch : Option ℕ) (name : List ℕ) (content : Content) (h : Kept) (output errors : Passage) (store : Shelf) (status : ℕ) →
+    IsHubOf p watch content h → ReplayTold asked h output errors store status → ScheduleOutcome asked p watch name content output errors store status
+scheduled asked p watch name content h output errors store status (plan, fits, made) (run, told) =
     let due : AllReported watch plan.items h.reports =
     subst (λ (ts : List Item). AllReported watch ts h.reports) made.items_are
     (subst (λ (w : Option ℕ). AllReported w h.course.items h.reports) made.watch_is made.none_due) in
@@ -112,33 +125,39 @@ scheduled asked p watch name content h output errors status (plan, fits, made) (
       fits,
       (
         h.reports,
-        r,
+        run_of h.course,
         run_is p watch plan.items h made.program made.watch_is made.items_are run,
         due,
-        told_of made.program made.budget_is made.items_are told,
+        told_of asked p plan.budget plan.items h output errors store status made.program made.budget_is made.items_are told,
       ),
     )
-  where
-    told_of : {p : List (PlainItem ℕ)} {budget : ℕ} {items : List Item} → h.course.program ≡ p → h.budget ≡ budget → h.course.items ≡ items →
-        IsClosed asked h.course.program h.course.items h.reports h.budget (run_of h.course) output errors status
-        ⊎ IsNotTold h.reports h.course.output (whole_output h.budget (run_of h.course)) output errors status →
-        IsClosed asked p items h.reports budget (run_of h.course) output errors status
-        ⊎ IsNotTold h.reports h.course.output (whole_output budget (run_of h.course)) output errors status
-    told_of {p} {budget} {items} program budget_is items_are (inl closed) = inl (closed_of asked p budget items h output errors status program budget_is items_are closed)
-    told_of program budget_is items_are (inr broke) =
-        inr (subst (λ (b : ℕ). IsNotTold h.reports h.course.output (whole_output b (run_of h.course)) output errors status) budget_is broke)
+
+-- how it is closed was told, or that memory ran out, behind the reports
+pub replay_told : (asked : PlainAsked) (h : Kept) (made : Result Reply Refusal) (output errors : Passage) (mid : Moment) (store : Shelf) (status : ℕ) →
+    IsRunOf h.course.program h.watch h.course.items h.reports (run_of h.course) → AreTold h.reports (upto mid errors) →
+    IfOk made (λ reply. IsClosed asked None h.course.program h.course.items h.budget (run_of h.course) (behind h.course.output (plain_of reply))) → IfErr made (λ why. why ≡ Memory) →
+    IsCarriedOut (plain_reply h.course.output made) output (since mid errors) store status → ReplayTold asked h output errors store status
+replay_told asked h (Ok reply) output errors mid store status run told closed none carried = (run, (mid, _, inl (told, inl closed), carried))
+replay_told asked h (Err why) output errors mid store status run told none memory carried =
+    (run, (mid, _, inl (told, inr (ap (plain_refusal h.course.output) memory)), carried))
+
+-- or that a write of them failed
+pub replay_cut : (asked : PlainAsked) (h : Kept) (output errors : Passage) (mid : Moment) (store : Shelf) (status : ℕ) →
+    IsRunOf h.course.program h.watch h.course.items h.reports (run_of h.course) → AreCut h.reports (upto mid errors) →
+    IsCarriedOut broken output (since mid errors) store status → ReplayTold asked h output errors store status
+replay_cut asked h output errors mid store status run cut carried = (run, (mid, _, inr (cut, refl), carried))
 
 -- the script was run by the schedule, with the numbers of its servers
 pub replayed : (explains : Bool) (s : PlainScript) (options : ReplayOptions) (servers : List ℕ) (asked : PlainAsked) (p : List (PlainItem ℕ)) (content : Content)
-    (output errors : Counted) (status : ℕ) → first_unknown s (server_names options.end) ≡ None → servers ≡ server_numbers s (server_names options.end) → p ≡ s.program →
+    (output errors : Passage) (store : Shelf) (status : ℕ) → first_unknown s (server_names options.end) ≡ None → servers ≡ server_numbers s (server_names options.end) → p ≡ s.program →
     asked ≡ record { explains = explains; strict = options.end.strict; servers = servers } →
-    ScheduleOutcome asked p options.watch options.schedule.now content output errors status → ScriptReplayed explains s options content output errors status
-replayed explains s options servers asked p content output errors status known numbered program same ran =
+    ScheduleOutcome asked p options.watch options.schedule.now content output errors store status → ScriptReplayed explains s options content output errors store status
+replayed explains s options servers asked p content output errors store status known numbered program same ran =
     let asks : asked ≡ replay_asked options explains s = same ∙ ap (λ (ns : List ℕ). record { explains = explains; strict = options.end.strict; servers = ns }) numbered in
     inl (
       known,
-      subst (λ (a : PlainAsked). ScheduleOutcome a s.program options.watch options.schedule.now content output errors status) asks
-          (subst (λ (q : List (PlainItem ℕ)). ScheduleOutcome asked q options.watch options.schedule.now content output errors status) program ran),
+      subst (λ (a : PlainAsked). ScheduleOutcome a s.program options.watch options.schedule.now content output errors store status) asks
+          (subst (λ (q : List (PlainItem ℕ)). ScheduleOutcome asked q options.watch options.schedule.now content output errors store status) program ran),
     )
 
 -- ---- a store that was read first

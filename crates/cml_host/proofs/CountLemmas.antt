@@ -3,14 +3,15 @@ use Rattle.std.proofs.Common.{◌⊎◌, ◌+◌, ◌<◌, ◌≤◌, ◌^◌, �
 use Rattle.std.proofs.lemmas.Bool.{cases_lt}
 use Rattle.std.specs.Prelude.{IsSomeAnd}
 use Rattle.cml_hub.specs.Kept.{IsBudget, IsWatch}
-use Rattle.cml_arguments.specs.Words.{IsAnswer, IsExplore, IsReplay, IsRun, IsRuns, Names}
+use Rattle.cml_arguments.specs.Words.{IsAnswer, IsExplore, IsReplay, IsRun, IsRuns, IsStates, Names}
 use Rattle.cml_arguments.specs.Words as words
 use Rattle.cml_arguments.specs.declared.Answer.TheVariants as answer
 use Rattle.cml_arguments.specs.declared.ExploreOptions.{ExploreOptions}
 use Rattle.cml_arguments.specs.declared.ReplayOptions.{ReplayOptions}
 use Rattle.cml_arguments.specs.declared.RunOptions.{RunOptions}
+use Rattle.cml_arguments.specs.declared.VerifyOptions.{VerifyOptions}
 use Rattle.cml_arguments.specs.declared.Task.{Task}
-use Rattle.cml_arguments.specs.declared.Task.TheVariants.{Trace, Check, Fmt, Run, Replay, Explain, Explore, Shrink, Draw, Step}
+use Rattle.cml_arguments.specs.declared.Task.TheVariants.{Trace, Check, Fmt, Run, Replay, Explain, Explore, Verify, Shrink, Draw, Step}
 use Rattle.cml_host.specs.Statuses.{HasCounts}
 use Rattle.cml_work.specs.Works.{IsWorkerCount}
 
@@ -63,6 +64,11 @@ explore_seeds given options is = go (cases_lt (2 ^ 64) (options.seed + options.r
     go (inl past) = absurd (is.1 (codes "--runs goes past the last seed, 18446744073709551615\n") (inr (inr (inl (past, refl)))))
     go (inr within) = within
 
+-- the number of states lies within its bounds
+states_counted : (given : List (List ℕ)) (options : VerifyOptions) → IsAnswer given (answer.Task (Verify options)) → IsStates options.states
+states_counted given options is =
+    some_gives _ (λ named. Names named (Verify options)) _ (λ named names. names.1.counts) is.0.1
+
 -- those of the command that the arguments name
 pub task_counted : (given : List (List ℕ)) (task : Task) → IsAnswer given (answer.Task task) → HasCounts task
 task_counted given (Run options) is = counted given options is
@@ -70,6 +76,7 @@ task_counted given (Replay options) is = watch_counted given options is
 task_counted given (Explore options) is =
     let counts = explore_counted given options is in
     (counts.0, counts.1, explore_depth given options is, explore_seeds given options is)
+task_counted given (Verify options) is = states_counted given options is
 task_counted given (Trace options) is = tt
 task_counted given (Check options) is = tt
 task_counted given (Fmt options) is = tt

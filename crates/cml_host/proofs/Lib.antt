@@ -1,4 +1,5 @@
 mod SayLemmas
+mod ReplyLemmas
 mod WriteLemmas
 mod RefusedLemmas
 mod TextLemmas
@@ -10,6 +11,7 @@ mod ServerLemmas
 mod ClosedLemmas
 mod RanLemmas
 mod WorkLemmas
+mod BehindLemmas
 mod StoryLemmas
 mod ItemLemmas
 mod PictureLemmas

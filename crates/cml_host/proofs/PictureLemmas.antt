@@ -1,9 +1,9 @@
 -- The picture of the run of a hub: its items lead on from the beginning, so each of them can happen.
-use Rattle.std.proofs.Common.{◌≡◌, ◌∙◌, ◌++◌, ◌||◌, [], ◌∷◌, ℕ, Bool, true, false, List, Option, Some, None, length, take, option_map, is_some, ap, Bor, refl, subst, sym, true≢false}
-use Rattle.std.proofs.KnownBytes.{Appends-trans}
+use Rattle.std.proofs.Common.{◌≡◌, ◌∙◌, ◌++◌, ◌||◌, [], ◌∷◌, ℕ, Bool, true, false, List, Option, Some, None, length}
+use Rattle.std.proofs.Common.{take, option_map, is_some, Result, Ok, Err, IfOk, ap, Bor, inl, inr, refl, subst, sym, true≢false}
 use Rattle.std.proofs.Math.Seq.{take-length}
 use Rattle.cml_check.specs.Syntax.{PlainItem}
-use Rattle.cml_picture.specs.Draws.{HasUnfit, IsNotDrawn, ItemsLead}
+use Rattle.cml_picture.specs.Draws.{HasUnfit, IsNotDrawn, IsTooLong, ItemsLead}
 use Rattle.cml_picture.specs.declared.fault.DrawFault.{DrawFault}
 use Rattle.cml_picture.specs.declared.fault.DrawFault.TheVariants as fault
 use Rattle.cml_hub.specs.Courses.{PlainCourse, run_of}
@@ -13,15 +13,12 @@ use Rattle.cml_schedule.specs.declared.item.Item.{Item}
 use Rattle.cml_step.specs.Calls.{text_of}
 use Rattle.cml_step.specs.Terms.{Program}
 use Rattle.cml_arguments.specs.declared.RunOptions.{RunOptions}
-use Rattle.cml_host.specs.Closed.{SaysEnd}
 use Rattle.cml_host.specs.Drawn.{AllDrawn}
 use Rattle.cml_host.specs.Plans.{Opens}
-use Rattle.cml_host.specs.Running.{IsPictureFor, IsRunDrawn, IsSayable, saving_of, wanted_of}
-use Rattle.cml_host.specs.declared.picture.Picture.{Picture}
-use Rattle.cml_host.specs.declared.picture.Picture.TheVariants as drawing
-use Rattle.cml_stream.specs.Streams.{counted_stream, stream, Takes}
+use Rattle.cml_host.specs.Replies.{File, PlainReply, behind, file, plain_of}
+use Rattle.cml_host.specs.Running.{IsPictured, IsRunDrawn, and_saves, but_says, saving_of, wanted_of}
+use Rattle.cml_host.specs.declared.reply.Reply.{Reply}
 use Rattle.cml_host.proofs.ClosedLemmas.{starts_itself}
-use Rattle.cml_host.proofs.TellLemmas.{says_behind}
 
 -- ---- no item is unfit
 
@@ -71,6 +68,12 @@ no_bad_item budget h items to number end why opens leads all is not =
     no_unfit budget h items number end opens leads
     (subst (λ (n : ℕ). IsNotDrawn h.course items 1 n end (fault.BadItem number)) all (subst (λ (w : DrawFault). IsNotDrawn h.course items 1 to end w) is not))
 
+-- it fails where there is too much to draw
+pub too_many : (h : Kept) (items : List Item) (to : ℕ) (end : PlainCourse) (why : DrawFault) → to ≡ length items → why ≡ fault.TooMany → IsNotDrawn h.course items 1 to end why →
+    AllDrawn h.course items None
+too_many h items to end why all is not =
+    (end, subst (λ (n : ℕ). IsTooLong h.course items 1 n end) all (subst (λ (w : DrawFault). IsNotDrawn h.course items 1 to end w) is not))
+
 -- ---- the hub that begins again
 
 -- it is one of its own program
@@ -92,21 +95,28 @@ pub run_drawn : (h again : Kept) (items : List Item) (drawn : Option (List ℕ))
 run_drawn h again items (Some picture) same opens all = (again, opens, subst (λ (xs : List Item). AllDrawn again.course xs (Some picture)) same all)
 run_drawn h again items None same opens all = (again, opens, subst (λ (xs : List Item). AllDrawn again.course xs None) same all)
 
--- ---- what is asked for, and what is said
+-- ---- the reply with it
 
--- nothing was written to the errors, and then how it ended was said
-pub end_behind : (explains : Bool) (a b d : Option (List ℕ)) (calls failed : ℕ) → Takes (stream a b) [] → SaysEnd explains (counted_stream b d calls failed) →
-    SaysEnd explains (counted_stream a d calls failed)
-end_behind true a b d calls failed before (words, said) = (words, says_behind a b d calls failed [] words before said)
-end_behind false a b d calls failed before said = (Appends-trans a b d [] [] before said.0, said.1)
+-- the reply with its picture is so behind the output so far too
+pub pictured_behind : (output : List ℕ) (explains : Bool) (wanted : Option (List ℕ)) (p : List (PlainItem ℕ)) (budget : ℕ) (items : List Item) (bare reply : PlainReply) →
+    IsPictured explains wanted p budget items bare reply → IsPictured explains wanted p budget items (behind output bare) (behind output reply)
+pictured_behind output explains None p budget items bare reply is = ap (behind output) is
+pictured_behind output explains (Some name) p budget items bare reply (inl (drawn, draws, is)) = inl (drawn, draws, ap (behind output) is)
+pictured_behind output explains (Some name) p budget items bare reply (inr (long, (told, is))) = inr (long, (told, ap (behind output) is))
 
-pub sayable : (wanted : Option (List ℕ)) (h : Kept) (made : Picture) → IsPictureFor wanted h made → IsSayable made
-sayable None h drawing.Unasked is = tt
-sayable None h (drawing.Drawn name made) is = absurd is
-sayable None h drawing.TooMany is = tt
-sayable (Some w) h drawing.Unasked is = tt
-sayable (Some w) h (drawing.Drawn name made) is = is.2
-sayable (Some w) h drawing.TooMany is = tt
+pub pictured : {E : Type 0} (r : Result Reply E) (explains : Bool) (name drawn : List ℕ) (h : Kept) (bare : PlainReply) (f : File) → IsRunDrawn h (Some drawn) →
+    f ≡ file explains name drawn → IfOk r (λ reply. plain_of reply ≡ and_saves bare f) →
+    IfOk r (λ reply. IsPictured explains (Some name) h.course.program h.budget h.course.items bare (plain_of reply))
+pictured (Ok reply) explains name drawn h bare f draws is made = inl (drawn, draws, made ∙ ap (and_saves bare) is)
+pictured (Err e) explains name drawn h bare f draws is made = tt
+
+pub unpictured : {E : Type 0} (r : Result Reply E) (explains : Bool) (name : List ℕ) (h : Kept) (bare : PlainReply) → IsRunDrawn h None →
+    IfOk r (λ reply. (told : List ℕ) × (plain_of reply ≡ but_says bare told)) →
+    IfOk r (λ reply. IsPictured explains (Some name) h.course.program h.budget h.course.items bare (plain_of reply))
+unpictured (Ok reply) explains name h bare long made = inr (long, (made.0, made.1))
+unpictured (Err e) explains name h bare long made = tt
+
+-- ---- what is asked for
 
 always : (b : Bool) → b || true ≡ true
 always true = refl

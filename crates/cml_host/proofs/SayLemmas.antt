@@ -1,12 +1,11 @@
 -- What was written of a text, and whether a write failed.
-use Rattle.std.proofs.Common.{◌≡◌, ◌∙◌, ℕ, List, [], Result, Ok, Err, OnOk, OnErr, take, drop, ◌++◌, Option, sym, ap, inl, inr}
+use Rattle.std.proofs.Common.{◌≡◌, ◌∙◌, ℕ, List, Result, Ok, Err, OnOk, OnErr, take, drop, sym, ap, inl, inr}
 use Rattle.std.proofs.lemmas.List.{take-append-drop}
 use Rattle.cml_stream.specs.Counts.{counted}
-use Rattle.cml_stream.specs.Streams.{Stream, stream, Takes, TakesStart, Says}
+use Rattle.cml_stream.specs.Streams.{Stream, Takes, TakesStart, Says}
 use Rattle.cml_stream.specs.declared.input_output.WriteFault.{WriteFault}
 use Rattle.cml_work.specs.Seen.{IsSentOut, failed_with}
-use Rattle.cml_host.specs.Told.{SaysStill, IsSentText}
-use Rattle.cml_host.proofs.TellLemmas.{start_behind}
+use Rattle.cml_host.specs.Told.{IsSentText}
 
 -- a first part of it was written
 pub start_taken : (output : Stream) (text : List ℕ) (n : ℕ) → Takes output (take n text) → TakesStart output text
@@ -26,23 +25,6 @@ pub sent_of : (r : Result (Unit {0}) WriteFault) (output : Stream) (text : List 
     IsSentOut text r output → failed ≡ failed_with r was → IsSentText text r (record { bytes = output; counts = record { calls = calls; failed = failed } })
 sent_of (Ok done) output text calls was failed none sent is = (sent, is ∙ none)
 sent_of (Err fault) output text calls was failed none sent is = (sent, is ∙ ap counted none)
-
--- the same after a write that failed
-pub said_still : {A B : Type 0} (r : Result A B) (output : Stream) (text : List ℕ) (calls was failed : ℕ) → was ≡ 1 →
-    OnOk r (Takes output text) → OnErr r ((n : ℕ) × Takes output (take n text)) →
-    OnOk r (failed ≡ was) → OnErr r (failed ≡ counted was) →
-    SaysStill (record { bytes = output; counts = record { calls = calls; failed = failed } }) [] text
-said_still (Ok a) output text calls was failed one whole part fine broken = inl (whole, fine ∙ one)
-said_still (Err e) output text calls was failed one whole part fine broken =
-    inr (take part.0 text, drop part.0 text, sym (take-append-drop part.0 text), part.1, broken ∙ ap counted one)
-
--- a text was written, and then another, or a prefix of it
-pub both_taken : {A B : Type 0} (r : Result A B) (a b c : Option (List ℕ)) (first second : List ℕ) (was failed : ℕ) → was ≡ 0 →
-    Takes (stream a b) first → OnErr r ((n : ℕ) × Takes (stream b c) (take n second)) → OnErr r (failed ≡ counted was) →
-    OnErr r (TakesStart (stream a c) (first ++ second) × (failed ≡ 1))
-both_taken (Ok x) a b c first second was failed none written part broken = tt
-both_taken (Err e) a b c first second was failed none written part broken =
-    (start_behind a b c first second written (start_taken (stream b c) second part.0 part.1), broken ∙ ap counted none)
 
 pub on_err : {A B : Type 0} (r : Result A B) (P : Type 0) → P → OnErr r P
 on_err (Ok a) P p = tt

@@ -6,7 +6,7 @@ use Rattle.cml_hub.specs.Kept.{Kept, Continues, IsOver}
 use Rattle.cml_hub.specs.Playing.{Rules, PlaysOut}
 use Rattle.cml_hub.specs.Runs.{Run}
 use Rattle.cml_hub.specs.declared.fault.End.{End}
-use Rattle.cml_monitor.specs.Reports.{PlainReport}
+use Rattle.cml_schedule.specs.Reports.{PlainReport}
 use Rattle.cml_schedule.specs.declared.item.Item.{Item}
 use Rattle.cml_stream.specs.Counts.{counted}
 use Rattle.cml_stream.specs.Streams.{stream, counted_stream, Takes}

@@ -1,14 +1,15 @@
 -- How a run is closed that has come to its end: with which status.
-use Rattle.std.specs.Prelude.{◌≡◌, ◌&&◌, ℕ, Bool, true, false, if◌then◌else◌, List, [], Option, is_some}
+use Rattle.std.specs.Prelude.{◌≡◌, ◌&&◌, ℕ, Bool, true, false, if◌then◌else◌, List, [], ◌∷◌, Option, Some, None, is_some}
+use Rattle.cml_check.specs.Sizes.{size_of}
 use Rattle.cml_check.specs.Syntax.{PlainItem}
 use Rattle.cml_ending.specs.Stuck.{is_stuck}
 use Rattle.cml_hub.specs.Courses.{run_of}
 use Rattle.cml_hub.specs.Kept.{Kept}
 use Rattle.cml_hub.specs.Runs.{Run, ending}
-use Rattle.cml_monitor.specs.Reports.{PlainReport}
+use Rattle.cml_schedule.specs.Written.{schedule_text}
 use Rattle.cml_schedule.specs.declared.item.Item.{Item}
-use Rattle.cml_stream.specs.Streams.{Counted, Says, Takes}
-use Rattle.cml_host.specs.Told.{IsToldWith, end_status, whole_output}
+use Rattle.cml_host.specs.Replies.{File, PlainReply, file}
+use Rattle.cml_host.specs.Told.{end_status, whole_output}
 use Rattle.cml_host.specs.declared.close.Asked.{Asked}
 use Rattle.cml_host.specs.declared.close.Closing.{Closing}
 
@@ -30,10 +31,22 @@ pub record IsHubAt (p : List (PlainItem ℕ)) (budget : ℕ) (items : List Item)
   pub items_are : h.course.items ≡ items
   pub run_is : run_of h.course ≡ r
 
--- A run that has come to its end was told whole, and then how it ended, where that is asked for.
-abbrev pub IsClosed : PlainAsked → List (PlainItem ℕ) → List Item → List PlainReport → ℕ → Run → Counted → Counted → ℕ → Type 0
-IsClosed asked p items reports budget r output errors status =
-    (h : Kept) × IsHubAt p budget items r h × IsToldWith asked.explains reports (whole_output budget r) output errors × (status ≡ closing_status asked h)
+-- these may be the words that are said of the end: any, where it is explained; else none
+abbrev pub MaySay : Bool → List ℕ → Type 0
+MaySay true words = Unit {0}
+MaySay false words = words ≡ []
+
+-- the schedule as a file of this name, where one is given
+abbrev pub schedule_file : Bool → Option (List ℕ) → List ℕ → List File
+schedule_file explains None schedule = []
+schedule_file explains (Some name) schedule = file explains name schedule ∷ []
+
+-- What is told of a run that has come to its end: its output with the end line; its schedule is saved, where that is asked for; and then it is said
+-- how it ended.
+abbrev pub IsClosed : PlainAsked → Option (List ℕ) → List (PlainItem ℕ) → List Item → ℕ → Run → PlainReply → Type 0
+IsClosed asked save_as p items budget r reply =
+    (h : Kept) × IsHubAt p budget items r h × (reply.output ≡ whole_output budget r)
+    × (reply.files ≡ schedule_file asked.explains save_as (schedule_text budget (size_of p) items)) × MaySay asked.explains reply.words × (reply.status ≡ closing_status asked h)
 
 -- ---- what private functions say
 
@@ -44,9 +57,4 @@ plain_asked a = record { explains = a.explains && is_some a.subject; strict = a.
 -- the run of this hub is closed so
 pub record IsClosing (asked : PlainAsked) (h : Kept) (closing : Closing) : Type 0 where
   pub status : closing.status ≡ closing_status asked h
-  pub words : is_some closing.words ≡ asked.explains
-
--- what is said of the end was said, if anything is
-abbrev pub SaysEnd : Bool → Counted → Type 0
-SaysEnd false errors = Takes errors.bytes [] × (errors.counts.failed ≡ 0)
-SaysEnd true errors = (words : List ℕ) × Says errors words
+  pub words : MaySay asked.explains closing.words.items

@@ -6,10 +6,10 @@ use Rattle.cml_hub.specs.Courses.{PlainCourse}
 use Rattle.cml_hub.specs.Kept.{Kept}
 use Rattle.cml_schedule.specs.Plans.{PlainPlan}
 use Rattle.cml_schedule.specs.declared.item.Item.{Item}
-use Rattle.cml_stream.specs.Streams.{Counted}
 use Rattle.cml_arguments.specs.declared.PartOptions.{PartOptions}
 use Rattle.cml_host.specs.Plans.{AreBoth, AreNotBoth, IsItemTold, Opens}
-use Rattle.cml_host.specs.Refused.{Fault, GivesText}
+use Rattle.cml_host.specs.Refused.{Fault}
+use Rattle.cml_host.specs.Replies.{PlainReply, TextOr}
 use Rattle.cml_host.specs.Scripts.{PlainScript}
 use Rattle.cml_host.specs.Stores.{Content}
 
@@ -56,9 +56,9 @@ IsUndrawn options held told status =
     AreNotBoth options.script.now options.schedule.now held told status
     ⊎ ((s : PlainScript) × (plan : PlainPlan) × AreBoth options.script.now options.schedule.now held s plan × IsPlanUndrawn options s.program plan told status)
 
--- `draw`: the picture was written, or it was said why there is none
-abbrev pub DrawOutcome : PartOptions → (List ℕ → Content) → Counted → Counted → ℕ → Type 0
-DrawOutcome options held = GivesText (IsDrawing options held) (IsUndrawn options held)
+-- `draw`: the picture, or why there is none
+abbrev pub DrawOutcome : PartOptions → (List ℕ → Content) → PlainReply → Type 0
+DrawOutcome options held = TextOr (IsDrawing options held) (IsUndrawn options held)
 
 -- ---- what private functions say
 

@@ -2,6 +2,8 @@ pub mod Between
 pub mod Stores
 pub mod Written
 pub mod Refused
+pub mod Replies
+pub mod Behind
 pub mod Scripts
 pub mod Servers
 pub mod Plans
@@ -14,6 +16,7 @@ pub mod Running
 pub mod Replaying
 pub mod Narrated
 pub mod Exploring
+pub mod Verified
 pub mod Shrunk
 pub mod Stepped
 pub mod Statuses

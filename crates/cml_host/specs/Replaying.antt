@@ -4,16 +4,18 @@ use Rattle.cml_check.specs.Syntax.{PlainItem}
 use Rattle.cml_hub.specs.Courses.{run_of}
 use Rattle.cml_hub.specs.Kept.{Kept, IsFirstBad, IsReplayed}
 use Rattle.cml_hub.specs.Runs.{Run}
-use Rattle.cml_monitor.specs.Reports.{PlainReport}
+use Rattle.cml_schedule.specs.Reports.{PlainReport}
 use Rattle.cml_schedule.specs.Plans.{PlainPlan}
-use Rattle.cml_stream.specs.Streams.{Counted, IsIdle}
+use Rattle.cml_schedule.specs.declared.item.Item.{Item}
 use Rattle.cml_arguments.specs.declared.ReplayOptions.{ReplayOptions}
-use Rattle.cml_host.specs.Stores.{Content}
-use Rattle.cml_host.specs.Refused.{Fault, RefusedBy, MemoryOutcome}
+use Rattle.cml_host.specs.Stores.{Content, Shelf}
+use Rattle.cml_host.specs.Refused.{Fault}
 use Rattle.cml_host.specs.Plans.{IsPlanFor, IsNoPlanFor, IsItemTold}
-use Rattle.cml_host.specs.Scripts.{PlainScript, IsOpened, NoScriptOutcome}
+use Rattle.cml_host.specs.Behind.{RepliesAfter}
+use Rattle.cml_host.specs.Replies.{Passage, PlainReply, RefusalOf, Replies, broken, runs_out}
+use Rattle.cml_host.specs.Scripts.{PlainScript, IsOpened, IsNoScript}
 use Rattle.cml_host.specs.Servers.{IsNoFunction, first_unknown, server_numbers, server_names}
-use Rattle.cml_host.specs.Told.{IsRunOf, AllReported, whole_output, IsNotTold}
+use Rattle.cml_host.specs.Told.{IsRunOf, AllReported, AreTold, AreCut}
 use Rattle.cml_host.specs.Closed.{PlainAsked, IsClosed}
 
 -- the schedule has an item that is not allowed where it stands, and this tells the first such
@@ -25,52 +27,53 @@ abbrev pub IsNotFollowed : Bool → List ℕ → Content → List (PlainItem ℕ
 IsNotFollowed explains name content p told status =
     IsNoPlanFor explains name content p told status ⊎ ((plan : PlainPlan) × IsPlanFor content p plan × HasBadItem explains p plan told status)
 
--- The program followed the schedule, and where it led was told, with how it ended where that was asked for; or a write failed, or memory ran
--- out.
-abbrev pub PlanOutcome : PlainAsked → List (PlainItem ℕ) → Option ℕ → PlainPlan → Counted → Counted → ℕ → Type 0
-PlanOutcome asked p watch plan output errors status =
+-- What is told of the run to which the schedule leads, behind what was written of its reports to these errors: how it is closed, or its output so far
+-- and that memory ran out; or that a write of them failed.
+abbrev pub IsReplayReply : PlainAsked → List (PlainItem ℕ) → ℕ → List Item → List PlainReport → Run → Passage → PlainReply → Type 0
+IsReplayReply asked p budget items reports r errors reply =
+    (AreTold reports errors × (IsClosed asked None p items budget r reply ⊎ (reply ≡ runs_out r.output))) ⊎ (AreCut reports errors × (reply ≡ broken))
+
+-- The program followed the schedule, and where it led was told.
+abbrev pub PlanOutcome : PlainAsked → List (PlainItem ℕ) → Option ℕ → PlainPlan → Passage → Passage → Shelf → ℕ → Type 0
+PlanOutcome asked p watch plan output errors store status =
     (reports : List PlainReport) × (r : Run) × IsRunOf p watch plan.items reports r × AllReported watch plan.items reports
-    × (IsClosed asked p plan.items reports plan.budget r output errors status
-    ⊎ IsNotTold reports r.output (whole_output plan.budget r) output errors status)
+    × RepliesAfter (IsReplayReply asked p plan.budget plan.items reports r) output errors store status
 
 -- The schedule that lies there was followed; or something is wrong with it, and the errors tell what; or it was not read, or memory ran
 -- out.
-abbrev pub ScheduleOutcome : PlainAsked → List (PlainItem ℕ) → Option ℕ → List ℕ → Content → Counted → Counted → ℕ → Type 0
-ScheduleOutcome asked p watch name content output errors status =
-    ((plan : PlainPlan) × IsPlanFor content p plan × PlanOutcome asked p watch plan output errors status)
-    ⊎ (RefusedBy (IsNotFollowed asked.explains name content p) errors status × IsIdle output)
+abbrev pub ScheduleOutcome : PlainAsked → List (PlainItem ℕ) → Option ℕ → List ℕ → Content → Passage → Passage → Shelf → ℕ → Type 0
+ScheduleOutcome asked p watch name content output errors store status =
+    ((plan : PlainPlan) × IsPlanFor content p plan × PlanOutcome asked p watch plan output errors store status)
+    ⊎ Replies (RefusalOf (IsNotFollowed asked.explains name content p)) output errors store status
 
 -- what is asked of the end of a run of this script
 abbrev pub replay_asked : ReplayOptions → Bool → PlainScript → PlainAsked
 replay_asked options explains s =
     record { explains = explains; strict = options.end.strict; servers = server_numbers s (server_names options.end) }
 
--- The script was run by the schedule, where it has the functions that are named as those of servers; or it has not, and nothing was written to
--- the output.
-abbrev pub ScriptReplayed : Bool → PlainScript → ReplayOptions → Content → Counted → Counted → ℕ → Type 0
-ScriptReplayed explains s options content output errors status =
+-- The script was run by the schedule, where it has the functions that are named as those of servers; or it has not.
+abbrev pub ScriptReplayed : Bool → PlainScript → ReplayOptions → Content → Passage → Passage → Shelf → ℕ → Type 0
+ScriptReplayed explains s options content output errors store status =
     ((first_unknown s (server_names options.end) ≡ None)
-    × ScheduleOutcome (replay_asked options explains s) s.program options.watch options.schedule.now content output errors status)
-    ⊎ (RefusedBy (IsNoFunction s (server_names options.end)) errors status × IsIdle output)
+    × ScheduleOutcome (replay_asked options explains s) s.program options.watch options.schedule.now content output errors store status)
+    ⊎ Replies (RefusalOf (IsNoFunction s (server_names options.end))) output errors store status
 
 -- `replay`: the script that lies under its name was run by the schedule that lies under its own, or that schedule was refused; or the
--- script was not run (no script lies there, which may be explained, it was not read, or memory ran out), and nothing was written to the
--- output.
-abbrev pub ReplayOutcome : ReplayOptions → Bool → (List ℕ → Content) → Counted → Counted → ℕ → Type 0
-ReplayOutcome options explains held output errors status =
-    ((s : PlainScript) × IsOpened (held options.script.now) s
-    × ScriptReplayed explains s options (held options.schedule.now) output errors status)
-    ⊎ (NoScriptOutcome explains (held options.script.now) options.script.now errors status × IsIdle output)
+-- script was not run: no script lies there, which may be explained, it was not read, or memory ran out.
+abbrev pub ReplayOutcome : ReplayOptions → Bool → Passage → Passage → Shelf → ℕ → Type 0
+ReplayOutcome options explains output errors store status =
+    ((s : PlainScript) × IsOpened (store.before options.script.now) s
+    × ScriptReplayed explains s options (store.before options.schedule.now) output errors store status)
+    ⊎ Replies (RefusalOf (IsNoScript explains options.script.now (store.before options.script.now))) output errors store status
 
 -- ---- what private functions say
-
--- where this hub stands was told, and it is a run of its program; or a write failed, or memory ran out
-abbrev pub ReplayTold : PlainAsked → Kept → Counted → Counted → ℕ → Type 0
-ReplayTold asked h output errors status =
-    IsRunOf h.course.program h.watch h.course.items h.reports (run_of h.course)
-    × (IsClosed asked h.course.program h.course.items h.reports h.budget (run_of h.course) output errors status
-    ⊎ IsNotTold h.reports h.course.output (whole_output h.budget (run_of h.course)) output errors status)
 
 -- the program followed the schedule that lies there, and this hub stands at its end
 abbrev pub IsHubOf : List (PlainItem ℕ) → Option ℕ → Content → Kept → Type 0
 IsHubOf p watch content hub = (plan : PlainPlan) × IsPlanFor content p plan × IsReplayed p plan.budget watch plan.items hub
+
+-- where this hub stands was told, which is a run of its program
+abbrev pub ReplayTold : PlainAsked → Kept → Passage → Passage → Shelf → ℕ → Type 0
+ReplayTold asked h output errors store status =
+    IsRunOf h.course.program h.watch h.course.items h.reports (run_of h.course)
+    × RepliesAfter (IsReplayReply asked h.course.program h.budget h.course.items h.reports (run_of h.course)) output errors store status

@@ -12,9 +12,9 @@ use Rattle.cml_check.specs.Shape.{shape}
 use Rattle.cml_check.specs.Syntax.{PlainItem}
 use Rattle.cml_check.specs.declared.fault.CheckFault.TheVariants as check_fault
 use Rattle.cml_step.specs.Calls.{text_of}
-use Rattle.cml_stream.specs.Streams.{Counted}
 use Rattle.cml_host.specs.Stores.{Content, unknown, nothing, bytes}
-use Rattle.cml_host.specs.Refused.{Fault, GivesText, IsExplained, IsUnread, RefusedBy}
+use Rattle.cml_host.specs.Refused.{Fault, IsExplained, IsUnread}
+use Rattle.cml_host.specs.Replies.{PlainReply, RefusalOf, TextOr}
 use Rattle.cml_host.specs.declared.script.Script.{Script}
 
 -- This is the whole text that lies there: any text, where it is not known; and none, where nothing lies there.
@@ -68,27 +68,23 @@ pub record IsOpened (content : Content) (s : PlainScript) : Type 0 where
   pub spelled : Spells s.text s.forms
   pub shaped : shape s.forms ≡ Ok (text_of s.program)
 
--- The script that lies there was not run, and the errors tell why: its text is none, or it was not read; or memory ran out.
-abbrev pub NoScriptOutcome : Bool → Content → List ℕ → Counted → ℕ → Type 0
-NoScriptOutcome explains content name errors status = RefusedBy (IsNoScript explains name content) errors status
-
 -- ---- `check` and `fmt`
 
 -- how many functions the script has that lies there
 abbrev pub IsCounted : Content → List ℕ → Type 0
 IsCounted content told = (s : PlainScript) × IsOpened content s × (told ≡ line (codes "ok functions " ++ decimal (length s.program)))
 
--- `check`: it was said how many functions the script has; or why there is none
-abbrev pub CheckOutcome : Bool → List ℕ → Content → Counted → Counted → ℕ → Type 0
-CheckOutcome explains name content = GivesText (IsCounted content) (IsNoScript explains name content)
+-- `check`: how many functions the script has; or why there is none
+abbrev pub CheckOutcome : Bool → List ℕ → Content → PlainReply → Type 0
+CheckOutcome explains name content = TextOr (IsCounted content) (IsNoScript explains name content)
 
 -- the forms that the text spells that lies there, each on a line
 abbrev pub ArePrinted : Content → List ℕ → Type 0
 ArePrinted content told = (forms : List PlainSexpr) × AreForms content forms × (told ≡ printed forms)
 
--- `fmt`: they were written; or it was said why there are none
-abbrev pub FmtOutcome : Bool → List ℕ → Content → Counted → Counted → ℕ → Type 0
-FmtOutcome explains name content = GivesText (ArePrinted content) (HasNoForms explains name content)
+-- `fmt`: these forms; or why there are none
+abbrev pub FmtOutcome : Bool → List ℕ → Content → PlainReply → Type 0
+FmtOutcome explains name content = TextOr (ArePrinted content) (HasNoForms explains name content)
 
 -- ---- what private functions say
 

@@ -15,17 +15,18 @@ use Rattle.cml_stepper.specs.Steppers.{places_known, FollowsTo}
 use Rattle.cml_stepper.specs.declared.reply.Reply.{Reply}
 use Rattle.cml_stepper.specs.declared.stepper.Stepper.{Stepper}
 use Rattle.cml_stream.specs.Counts.{Calls}
-use Rattle.cml_stream.specs.Streams.{Counted, Stream, IsIdle, IsSpent, IsUntouched, Says, Supplies, Takes}
+use Rattle.cml_stream.specs.Streams.{Counted, Stream, IsIdle, IsSpent, IsUntouched, Supplies}
 use Rattle.cml_trace.specs.Live.{max_turns, HasLiveCause}
 use Rattle.cml_trace.specs.declared.fault.TraceFault.{TraceFault}
 use Rattle.cml_trace.specs.declared.fault.TraceFault.TheVariants as fault
 use Rattle.cml_arguments.specs.declared.StepOptions.{StepOptions}
+use Rattle.cml_host.specs.Behind.{RepliesBehind, bytes_of, calls_of}
 use Rattle.cml_host.specs.Narrated.{Writes}
-use Rattle.cml_host.specs.Refused.{MemoryOutcome}
-use Rattle.cml_host.specs.Running.{IsNotKept}
-use Rattle.cml_host.specs.Scripts.{PlainScript, IsOpened, NoScriptOutcome}
-use Rattle.cml_host.specs.Stores.{Shelf, IsSaved, IsUnchanged}
-use Rattle.cml_host.specs.Traced.{fault_status, trace_fault_line}
+use Rattle.cml_host.specs.Closed.{schedule_file}
+use Rattle.cml_host.specs.Replies.{File, Passage, PlainReply, RefusalOf, runs_out}
+use Rattle.cml_host.specs.Scripts.{PlainScript, IsNoScript, IsOpened}
+use Rattle.cml_host.specs.Stores.{Content, Shelf}
+use Rattle.cml_host.specs.Traced.{faulted}
 
 -- how many steps the run may take by the schedule that is saved
 abbrev pub stepped_budget : ℕ
@@ -90,37 +91,41 @@ abbrev pub HasTalkCause : ℕ → Result (Unit {0}) TraceFault → Calls → Cal
 HasTalkCause turns (Ok done) input output = (input.failed ≡ 0) × (output.failed ≡ 0)
 HasTalkCause turns (Err why) input output = HasLiveCause turns (Err why) input output
 
--- The schedule was saved under the name, where one is given; or it could not be, and the errors tell why; or memory ran out.
-abbrev pub SavedOutcome : Option (List ℕ) → List ℕ → Counted → Shelf → ℕ → Type 0
-SavedOutcome None schedule errors store status = (status ≡ 0) × IsIdle errors × IsUnchanged store.before store.after
-SavedOutcome (Some name) schedule errors store status =
-    (IsSaved store.before store.after name schedule × Takes errors.bytes [] × (errors.counts.failed ≡ 0) × (status ≡ 0))
-    ⊎ IsNotKept true name errors store status
-    ⊎ (MemoryOutcome errors status × IsUnchanged store.before store.after)
+-- files are saved, and nothing is said
+abbrev pub saves : List File → PlainReply
+saves files = record { output = []; files = files; words = []; status = 0 }
 
--- The run of the program was gone through to its end, its schedule leads where the hub stood then, and was saved, where that was asked for; or
--- it was cut off, the errors tell why, and nothing was saved.
-abbrev pub HubStepped : List (List Place) → List (PlainItem ℕ) → Option (List ℕ) → Kept → Counted → Counted → Counted → Shelf → ℕ → Type 0
-HubStepped places p name start input output errors store status =
-    ((last : Kept) × TalksOut places start [] last input.bytes output.bytes × (input.counts.failed ≡ 0) × (output.counts.failed ≡ 0)
+-- the schedule is saved under the name, where one is given; or memory ran out
+abbrev pub IsSaving : Option (List ℕ) → List ℕ → PlainReply → Type 0
+IsSaving name schedule reply = (reply ≡ saves (schedule_file true name schedule)) ⊎ (reply ≡ runs_out [])
+
+-- The run of the program was gone through to its end, its schedule leads where the hub stood then, and is to be saved, where that is asked for;
+-- or it was cut off, which is told.
+abbrev pub HubStepped : List (List Place) → List (PlainItem ℕ) → Option (List ℕ) → Kept → Counted → Passage → PlainReply → Type 0
+HubStepped places p name start input output reply =
+    ((last : Kept) × TalksOut places start [] last input.bytes (bytes_of output) × (input.counts.failed ≡ 0) × (output.new.failed ≡ 0)
     × (stands (text_of p) last.course.items ≡ Some (run_of last.course))
-    × SavedOutcome name (schedule_text stepped_budget (size_of p) last.course.items) errors store status)
-    ⊎ ((why : TraceFault) × IsNotHeld places start input.bytes output.bytes why × HasLiveCause max_turns (Err why) input.counts output.counts
-    × Says errors (trace_fault_line why) × (status ≡ fault_status why) × IsUnchanged store.before store.after)
+    × IsSaving name (schedule_text stepped_budget (size_of p) last.course.items) reply)
+    ⊎ ((why : TraceFault) × IsNotHeld places start input.bytes (bytes_of output) why × HasLiveCause max_turns (Err why) input.counts (calls_of output)
+    × (reply ≡ faulted why))
 
 -- the same of a script, from the beginning of a run of its program on; or memory ran out before
-abbrev pub ScriptStepped : StepOptions → PlainScript → Counted → Counted → Counted → Shelf → ℕ → Type 0
-ScriptStepped options s input output errors store status =
+abbrev pub ScriptStepped : StepOptions → PlainScript → Counted → Passage → PlainReply → Type 0
+ScriptStepped options s input output reply =
     ((start : Kept) × IsAtStart s.program stepped_budget None start
-    × HubStepped (all_places s.text s.forms) s.program (option_map (λ name. name.now) options.record) start input output errors store status)
-    ⊎ (MemoryOutcome errors status × IsIdle input × IsIdle output × IsUnchanged store.before store.after)
+    × HubStepped (all_places s.text s.forms) s.program (option_map (λ name. name.now) options.record) start input output reply)
+    ⊎ ((reply ≡ runs_out []) × IsIdle input × (output.new ≡ output.old))
 
--- `step`: the run of the script that lies under the name was gone through by hand; or no script lies there, which is explained, it was not read,
--- or memory ran out, and nothing was read from the input, written to the output or saved.
-abbrev pub StepOutcome : StepOptions → Counted → Counted → Counted → Shelf → ℕ → Type 0
-StepOutcome options input output errors store status =
-    ((s : PlainScript) × IsOpened (store.before options.script.now) s × ScriptStepped options s input output errors store status)
-    ⊎ (NoScriptOutcome true (store.before options.script.now) options.script.now errors status × IsIdle input × IsIdle output × IsUnchanged store.before store.after)
+-- The run of the script that lies under the name was gone through by hand; or no script lies there, which is explained, it was not read,
+-- or memory ran out, and nothing was read from the input or written to the output.
+abbrev pub StepsSo : StepOptions → (List ℕ → Content) → Counted → Passage → PlainReply → Type 0
+StepsSo options held input output reply =
+    ((s : PlainScript) × IsOpened (held options.script.now) s × ScriptStepped options s input output reply)
+    ⊎ (RefusalOf (IsNoScript true options.script.now (held options.script.now)) reply × IsIdle input × (output.new ≡ output.old))
+
+-- `step`: that was done, and what was left to save and to say was
+abbrev pub StepOutcome : StepOptions → Counted → Passage → Passage → Shelf → ℕ → Type 0
+StepOutcome options input output errors store status = RepliesBehind (StepsSo options store.before input) output errors store status
 
 -- ---- what private functions say
 

@@ -1,21 +1,21 @@
--- What is told of a run of a script: its reports to the errors, its output and its end line to the output.
-use Rattle.std.specs.Prelude.{◌≡◌, ◌≢◌, ◌⊎◌, ℕ, List, ◌++◌, length, codes, Bool, true, false, Option, Some, None, Result, Ok, Err}
+-- What is told of a run of a script: its reports to the errors, and its output and its end line to the output.
+use Rattle.std.specs.Prelude.{◌≡◌, ◌≢◌, ℕ, List, ◌++◌, length, codes, Option, Some, Result, Ok, Err}
 use Rattle.std.specs.List.{flat_map}
 use Rattle.cml_check.specs.Syntax.{PlainItem}
 use Rattle.cml_hub.specs.declared.fault.End.{End}
 use Rattle.cml_hub.specs.declared.fault.End.TheVariants.{Quiet, Budget, Partial}
 use Rattle.cml_hub.specs.Runs.{Run, stands, ending}
 use Rattle.cml_hub.specs.Reports.{AreReports, IsDue}
-use Rattle.cml_monitor.specs.Reports.{PlainReport, report_text}
+use Rattle.cml_schedule.specs.Reports.{PlainReport, report_text}
 use Rattle.cml_scan.specs.Numbers.{spaced}
 use Rattle.cml_scan.specs.World.{pending}
 use Rattle.cml_schedule.specs.declared.item.Item.{Item}
 use Rattle.cml_step.specs.Calls.{text_of}
-use Rattle.cml_stream.specs.Streams.{Counted, IsIdle, Says, Takes, TakesStart}
+use Rattle.cml_stream.specs.Streams.{Counted, Takes, TakesStart, stream}
 use Rattle.cml_text.specs.Lines.{line}
 use Rattle.cml_work.specs.Marks.{BeginsWith}
 use Rattle.cml_stream.specs.declared.input_output.WriteFault.{WriteFault}
-use Rattle.cml_host.specs.Written.{cannot_write}
+use Rattle.cml_host.specs.Replies.{Passage}
 
 -- ---- what there is to tell
 
@@ -51,80 +51,21 @@ pub record IsRunOf (p : List (PlainItem ℕ)) (watch : Option ℕ) (items : List
 abbrev pub AllReported : Option ℕ → List Item → List PlainReport → Type 0
 AllReported watch items reports = IsDue watch (length items) (length reports) → ⊥
 
--- ---- how it is told
+-- ---- how its reports are told
 
--- all of it: the reports were written to the errors and the text to the output, and no write failed
-abbrev pub IsTold : List PlainReport → List ℕ → Counted → Counted → Type 0
-IsTold reports text output errors =
-    Takes errors.bytes (reports_text reports) × (errors.counts.failed ≡ 0)
-    × Takes output.bytes text × (output.counts.failed ≡ 0)
+-- all of them were written to the errors, and no write failed
+abbrev pub AreTold : List PlainReport → Passage → Type 0
+AreTold reports errors = Takes (stream errors.old.bytes errors.new.bytes) (reports_text reports) × (errors.new.failed ≡ 0)
 
--- after this was written to the errors, that was, or where a write of it failed a prefix of it
-abbrev pub SaysAfter : Counted → List ℕ → List ℕ → Type 0
-SaysAfter errors before told =
-    (Takes errors.bytes (before ++ told) × (errors.counts.failed ≡ 0))
-    ⊎ ((said : List ℕ) × (unsaid : List ℕ) × (told ≡ said ++ unsaid) × Takes errors.bytes (before ++ said) × (errors.counts.failed ≡ 1))
+-- a write of them failed, after a first part
+abbrev pub AreCut : List PlainReport → Passage → Type 0
+AreCut reports errors = TakesStart (stream errors.old.bytes errors.new.bytes) (reports_text reports) × (errors.new.failed ≡ 1)
 
--- all of it, and then how it ended was said to the errors, where that is explained
-abbrev pub IsToldWith : Bool → List PlainReport → List ℕ → Counted → Counted → Type 0
-IsToldWith false reports text output errors = IsTold reports text output errors
-IsToldWith true reports text output errors =
-    ((words : List ℕ) × SaysAfter errors (reports_text reports) words) × Takes output.bytes text × (output.counts.failed ≡ 0)
-
--- after a write that failed the line was written, or where that failed too a prefix of it
-abbrev pub SaysStill : Counted → List ℕ → List ℕ → Type 0
-SaysStill errors part told =
-    (Takes errors.bytes (part ++ told) × (errors.counts.failed ≡ 1))
-    ⊎ ((said : List ℕ) × (unsaid : List ℕ) × (told ≡ said ++ unsaid) × Takes errors.bytes (part ++ said) × (errors.counts.failed ≡ 2))
-
--- a write of the text failed after a prefix of it, and then the line was said
-abbrev pub Breaks : Counted → List ℕ → List ℕ → Type 0
-Breaks errors text told =
-    (part : List ℕ) × (unwritten : List ℕ) × (text ≡ part ++ unwritten) × SaysStill errors part told
-
--- a write of the reports failed, and the output was not called
-abbrev pub ReportsBroke : List PlainReport → Counted → Counted → ℕ → Type 0
-ReportsBroke reports output errors status =
-    Breaks errors (reports_text reports) cannot_write × IsIdle output × (status ≡ 1)
-
--- a write of the text to the output failed, after these reports were written to the errors
-abbrev pub OutputBroke : List PlainReport → List ℕ → Counted → Counted → ℕ → Type 0
-OutputBroke reports text output errors status =
-    TakesStart output.bytes text × (output.counts.failed ≡ 1)
-    × Says errors (reports_text reports ++ cannot_write) × (status ≡ 1)
-
--- memory ran out: after these reports were written to the errors, the output so far was written, and no end line
-abbrev pub MemoryBroke : List PlainReport → List ℕ → Counted → Counted → ℕ → Type 0
-MemoryBroke reports text output errors status =
-    Takes output.bytes text × (output.counts.failed ≡ 0)
-    × Says errors (reports_text reports ++ line (codes "memory")) × (status ≡ 5)
-
--- The run was cut off. A write of its reports failed, and the output was not called; or all of its reports were written, and either its
--- output so far and the line `memory`, or a prefix of that output, since a write of it failed.
-abbrev pub IsCutOff : List PlainReport → List ℕ → Counted → Counted → ℕ → Type 0
-IsCutOff reports text output errors status =
-    ReportsBroke reports output errors status
-    ⊎ (MemoryBroke reports text output errors status ⊎ OutputBroke reports text output errors status)
-
--- The reports that were written while the program ran are not all of those of the run, which begin with them: the errors tell that after
--- them, and the output was not called.
-abbrev pub IsForeign : List PlainReport → Counted → Counted → ℕ → Type 0
-IsForeign reports output errors status =
-    (seen : List PlainReport) × (seen ≢ reports) × BeginsWith reports seen × Says errors (reports_text seen ++ line (codes "foreign hub"))
-    × IsIdle output × (status ≡ 1)
-
--- how a fault ends the telling of a run that has come to its end
-abbrev pub IsNotTold : List PlainReport → List ℕ → List ℕ → Counted → Counted → ℕ → Type 0
-IsNotTold reports so_far text output errors status =
-    OutputBroke reports text output errors status ⊎ IsCutOff reports so_far output errors status
+-- those that were written while the program ran are not all of them, which begin with them
+abbrev pub AreForeign : List PlainReport → Passage → Type 0
+AreForeign reports errors = (seen : List PlainReport) × (seen ≢ reports) × BeginsWith reports seen × AreTold seen errors
 
 -- ---- what private functions say
-
--- The output and the end line were not told, after these reports: a write of them failed, or memory ran out.
-abbrev pub OutputNotTold : List PlainReport → List ℕ → List ℕ → Counted → Counted → ℕ → Type 0
-OutputNotTold reports so_far text output errors status =
-    OutputBroke reports text output errors status
-    ⊎ (MemoryBroke reports so_far output errors status ⊎ OutputBroke reports so_far output errors status)
 
 -- how the writing of a text ends: it was written; or a write failed after a prefix of it
 abbrev pub IsSentText : List ℕ → Result (Unit {0}) WriteFault → Counted → Type 0

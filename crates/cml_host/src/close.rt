@@ -1,22 +1,18 @@
 //! How a run is closed that has come to its end: its status, and what is said of that end.
 
-ghost use Rattle.std.specs.Prelude.{◌≡◌, ◌||◌, IfOk, is_some, true};
-ghost use Rattle.cml_host.specs.Between.{between};
-ghost use Rattle.cml_host.specs.Closed.{IsClosing, PlainAsked, SaysEnd, plain_asked};
+ghost use Rattle.std.specs.Prelude.{◌≡◌, ◌||◌, IfOk, is_some};
+ghost use Rattle.cml_host.specs.Closed.{IsClosing, MaySay, PlainAsked, plain_asked};
 ghost use Rattle.cml_host.specs.Closed as closed;
 ghost use Rattle.cml_host.specs.Told as spec;
 
-use crate::output::say;
 use crate::script::Script;
 use cml_check::Prog;
 use cml_ending::{explain_end, is_stuck};
 use cml_fault::{faults_of, write_faults};
 use cml_hub::{End, Hub};
 use cml_phrase::statement_places;
-use cml_stream::Counting;
 use cml_text::Sexpr;
 use std::alloc::{AllocError, Global};
-use std::io::Write;
 
 // The status of a run that is stuck, where it is judged strictly.
 const STUCK: u8 = 6;
@@ -50,8 +46,8 @@ pub struct Asked<'a> {
 pub struct Closing {
     /// The status with which it ends.
     pub status: u8,
-    /// What is said of its end, where that is explained.
-    pub words: Option<Vec<u8>>,
+    /// What is said of its end: nothing, where that is not explained.
+    pub words: Vec<u8>,
 }
 
 /// The program of the script, and the script as one that is spoken of.
@@ -118,9 +114,16 @@ pub fn close(alloc: Global, hub: &Hub, asked: &Asked<'_>) -> Result<Closing, All
         Some(subject) => close_subject(alloc, hub, asked.explains, subject, status),
         None => Ok(Closing {
             status,
-            words: None,
+            words: Vec::new(alloc),
         }),
     }
+}
+
+/// Whether the end is explained: where that is asked for, and the script is kept.
+pub fn is_explained(asked: &Asked<'_>) -> bool
+    ensures { result ≡ (plain_asked asked.now).explains }
+{
+    asked.explains && asked.subject.is_some()
 }
 
 // The same of a script that is kept, with this status.
@@ -131,19 +134,25 @@ fn close_subject(
     subject: &Subject<'_>,
     status: u8,
 ) -> Result<Closing, AllocError>
-    ensures { IfOk result (λ closing. (closing.status ≡ status) × (is_some closing.words ≡ explains)) }
+    ensures { IfOk result (λ closing. (closing.status ≡ status) × MaySay explains closing.words.items) }
+{
+    let words = asked_words(alloc, hub, explains, subject)?;
+    Ok(Closing { status, words })
+}
+
+// What is said of the end, where that is asked for.
+fn asked_words(
+    alloc: Global,
+    hub: &Hub,
+    explains: bool,
+    subject: &Subject<'_>,
+) -> Result<Vec<u8>, AllocError>
+    ensures { IfOk result (λ words. MaySay explains words.items) }
 {
     if explains {
-        let words = end_words(alloc, hub, subject)?;
-        Ok(Closing {
-            status,
-            words: Some(words),
-        })
+        end_words(alloc, hub, subject)
     } else {
-        Ok(Closing {
-            status,
-            words: None,
-        })
+        Ok(Vec::new(alloc))
     }
 }
 
@@ -194,22 +203,5 @@ fn end_status(end: End) -> u8
         End::Quiet => 0,
         End::Budget => 4,
         End::Partial => 0,
-    }
-}
-
-/// Says what is said of the end, after all else was told, and returns the status.
-pub fn say_end<E: Write>(closing: &Closing, err: &mut Counting<'_, E>) -> u8
-    requires fresh { err.old.failed ≡ 0 }
-    ensures said { let errors = between E.contents err.old err.new in
-        SaysEnd (is_some closing.now.words) errors }
-    ensures status { result ≡ closing.now.status }
-    ensures same_err { err.new.stream.ghost_name ≡ err.old.stream.ghost_name }
-{
-    match &closing.words {
-        Some(words) => {
-            say(err, words.as_slice());
-            closing.status
-        }
-        None => closing.status,
     }
 }

@@ -1,22 +1,24 @@
 //! Which command is done.
 
-ghost use Rattle.std.specs.{Prelude.{◌≡◌, ◌≤◌, map}, String.{string_bytes}};
-ghost use Rattle.cml_host.specs.{Between.{between}, Statuses.{AnswerOutcome, HasCounts, Surroundings, Ran, RanOver}, Stores.{Shelf}};
+ghost use Rattle.std.specs.{Prelude.{◌≡◌, ◌≤◌, [], map}, String.{string_bytes}};
+ghost use Rattle.cml_host.specs.{Behind.{plain_text}, Between.{between}, Replies.{passage, plain_reply}, Statuses.{HasCounts, Surroundings, Ran, RanOver, TaskOutcome}, Stores.{Shelf}};
 ghost use Rattle.cml_stream.specs.Streams.{stream};
 ghost use Rattle.cml_trace.specs.Live.{max_turns};
 
 use crate::draw::draw_file;
 use crate::explain::explain_file;
 use crate::explore::explore_file;
-use crate::output::{say, send_text};
-use crate::refusal::{Refusal, refuse, reply};
+use crate::output::say;
+use crate::refusal::Refusal;
 use crate::replay::replay_file;
+use crate::reply::{Reply, carry_out, text_reply};
 use crate::run::run_file;
 use crate::script::{check_file, print_file};
 use crate::shrink::shrink_file;
 use crate::step::step_file;
 use crate::store::Store;
 use crate::trace::trace;
+use crate::verify::verify_file;
 use crate::workers::Open;
 use cml_arguments::{Answer, Task, read_arguments};
 use cml_stream::Counting;
@@ -32,7 +34,8 @@ use std::thread::Threads;
 /// It reads the input or files of the store, writes what the command says to the output, and reports and what went wrong to the errors.
 /// The status is 0 where all was done; 1 where the arguments, the input, a file or the output are at fault, a write of reports failed, or
 /// the reports that were written are not those of the run; 2 where a text is refused; 3 where a schedule is refused; 4 where a script did
-/// not end within its steps; 5 where memory ran out or no thread could be started; and 6 where runs that are judged did not end well.
+/// not end within its steps, or has more states than may be kept; 5 where memory ran out or no thread could be started; and 6 where runs that
+/// are judged did not end well.
 pub fn run_command<R, I, O, E, S>(
     rt: &R,
     alloc: Global,
@@ -105,12 +108,18 @@ where
         Ok(Answer::Task(task)) => {
             do_task(rt, alloc, gate, task, input, out, err, terminal, store)
         }
-        Ok(Answer::Help(text)) => send_text(text.as_bytes(), out, err),
-        Ok(Answer::Fault(text)) => {
-            say(err, text.as_bytes());
-            1
+        Ok(Answer::Help(text)) => {
+            let made = Ok(text_reply(alloc, text.into_bytes()));
+            carry_out(alloc, "", &made, out, err, store)
         }
-        Err(AllocError) => refuse(Refusal::Memory, err),
+        Ok(Answer::Fault(text)) => {
+            let made = Err(Refusal::Told(text.into_bytes(), 1));
+            carry_out(alloc, "", &made, out, err, store)
+        }
+        Err(AllocError) => {
+            say(err, b"memory\n");
+            5
+        }
     }
 }
 
@@ -137,14 +146,11 @@ where
     requires reads { (input.old.calls ≡ 0) × (input.old.failed ≡ 0) }
     requires writes { (out.old.calls ≡ 0) × (out.old.failed ≡ 0) }
     requires complaints { (err.old.calls ≡ 0) × (err.old.failed ≡ 0) }
-    ensures ran { let around : Surroundings = record {
-      input = between I.remaining input.old input.new;
-      output = between O.contents out.old out.new;
-      errors = between E.contents err.old err.new;
-      terminal = terminal;
-      store = record { before = S.holds store.old; after = S.holds store.new };
-    } in
-        AnswerOutcome (Answer.Task task.entry) around result }
+    ensures ran { let given = between I.remaining input.old input.new in
+        let output = passage O.contents out.old out.new in
+        let errors = passage E.contents err.old err.new in
+        let shelf : Shelf = record { before = S.holds store.old; after = S.holds store.new } in
+        TaskOutcome task.entry terminal given output errors shelf result }
     ensures most { input.new.calls ≤ max_turns }
     ensures same_in { input.new.stream.ghost_name ≡ input.old.stream.ghost_name }
     ensures same_out { out.new.stream.ghost_name ≡ out.old.stream.ghost_name }
@@ -153,15 +159,17 @@ where
     match task {
         Task::Trace(options) => {
             let explains = options.explain.is_on(terminal);
-            trace(alloc, options.live, explains, input, out, err)
+            trace(alloc, options.live, explains, input, out, err, store)
         }
         Task::Check(options) => {
             let explains = options.explain.is_on(terminal);
-            reply(check_file(alloc, options.file, explains, store), out, err)
+            let made = text_made(alloc, check_file(alloc, options.file, explains, store));
+            carry_out(alloc, "", &made, out, err, store)
         }
         Task::Fmt(options) => {
             let explains = options.explain.is_on(terminal);
-            reply(print_file(alloc, options.file, explains, store), out, err)
+            let made = text_made(alloc, print_file(alloc, options.file, explains, store));
+            carry_out(alloc, "", &made, out, err, store)
         }
         Task::Run(options) => {
             let explains = options.explain.is_on(terminal);
@@ -173,8 +181,28 @@ where
         }
         Task::Explain(options) => explain_file(alloc, &options, out, err, store),
         Task::Explore(options) => explore_file(rt, alloc, &options, terminal, out, err, store),
-        Task::Shrink(options) => shrink_file(alloc, &options, out, err, store),
-        Task::Draw(options) => reply(draw_file(alloc, &options, store), out, err),
+        Task::Verify(options) => {
+            let made = verify_file(alloc, &options, store);
+            carry_out(alloc, "", &made, out, err, store)
+        }
+        Task::Shrink(options) => {
+            let made = shrink_file(alloc, &options, store);
+            carry_out(alloc, "", &made, out, err, store)
+        }
+        Task::Draw(options) => {
+            let made = text_made(alloc, draw_file(alloc, &options, store));
+            carry_out(alloc, "", &made, out, err, store)
+        }
         Task::Step(options) => step_file(alloc, &options, input, out, err, store),
+    }
+}
+
+// The reply that the text is, or why there is none.
+fn text_made(alloc: Global, made: Result<Vec<u8>, Refusal>) -> Result<Reply, Refusal>
+    ensures { plain_reply [] result ≡ plain_text made }
+{
+    match made {
+        Ok(text) => Ok(text_reply(alloc, text)),
+        Err(why) => Err(why),
     }
 }

@@ -1,18 +1,19 @@
 //! The command `explain`: what happened in a run, item by item, and how it ended.
 
-ghost use Rattle.std.specs.Prelude.{◌≡◌, [], ◌+◌, ◌<◌, ◌^◌, IfOk, IfErr, OnOk, OnErr, IsTrue, None, is_some, length};
+ghost use Rattle.std.specs.Prelude.{◌≡◌, [], ◌+◌, ◌<◌, ◌^◌, IfOk, IfErr, OnOk, OnErr, IsTrue, None, is_some};
 ghost use Rattle.cml_hub.specs.Kept.{IsAtStart, IsFollowed, NoneOut};
-ghost use Rattle.cml_host.specs.{Between.{between}, Plans.{AreNotBoth}, Refused.{RefusesAs}, Stores.{IsUnchanged}};
-ghost use Rattle.cml_host.specs.Narrated.{ExplainOutcome, HasToldFirst, IsPlanBegun, IsCutBy, PlanTold, Writes};
+ghost use Rattle.cml_host.specs.{Plans.{AreNotBoth}, Refused.{RefusesAs}, Replies.{passage, plain_refusal, plain_reply}, Stores.{IsUnchanged, Shelf}};
+ghost use Rattle.cml_host.specs.Narrated.{EndReplied, ExplainOutcome, ExplainsSo, HasToldFirst, IsCutBy, IsCutReply, IsPlanBegun, ItemRefused, PlanTold, Writes};
 ghost use Rattle.cml_host.specs.Narrated as spec;
 ghost use Rattle.cml_narrative.specs.Narrators.{Knows};
-ghost use Rattle.cml_stream.specs.Streams.{stream};
+ghost use Rattle.cml_stream.specs.{Counts.{counted}, Streams.{stream}};
 
 use crate::close::{Subject, end_words};
 use crate::item::explain_item;
 use crate::opening::{Opened, REFUSED, begin, open_both};
-use crate::output::{say, send_text, write_words};
-use crate::refusal::{Refusal, refuse};
+use crate::output::write_words;
+use crate::refusal::Refusal;
+use crate::reply::{Reply, carry_out, text_reply};
 use crate::store::Store;
 use crate::tell::let_go;
 use cml_arguments::PartOptions;
@@ -87,37 +88,31 @@ pub fn explain_file<O: Write, E: Write, S: Store>(
     err: &mut Counting<'_, E>,
     store: &mut S,
 ) -> u8
-    requires fresh { (out.old.calls ≡ 0) × (out.old.failed ≡ 0) × (err.old.calls ≡ 0) × (err.old.failed ≡ 0) }
-    ensures ran { let output = between O.contents out.old out.new in
-        let errors = between E.contents err.old err.new in
-        ExplainOutcome options.now (S.holds store.old) output errors result }
-    ensures same { IsUnchanged (S.holds store.old) (S.holds store.new) }
+    ensures ran { let output = passage O.contents out.old out.new in
+        let errors = passage E.contents err.old err.new in
+        let shelf : Shelf = record { before = S.holds store.old; after = S.holds store.new } in
+        ExplainOutcome options.now output errors shelf result }
     ensures same_out { out.new.stream.ghost_name ≡ out.old.stream.ghost_name }
     ensures same_err { err.new.stream.ghost_name ≡ err.old.stream.ghost_name }
 {
+    let made = explain_there(alloc, options, out, store);
+    carry_out(alloc, "", &made, out, err, store)
+}
+
+// Tells the items, and returns what is left to say.
+fn explain_there<O: Write, S: Store>(
+    alloc: Global,
+    options: &PartOptions<'_>,
+    out: &mut Counting<'_, O>,
+    store: &mut S,
+) -> Result<Reply, Refusal>
+    ensures told { ExplainsSo options.now (S.holds store.old) (passage O.contents out.old out.new) (plain_reply [] result) }
+    ensures same { IsUnchanged (S.holds store.old) (S.holds store.new) }
+    ensures same_out { out.new.stream.ghost_name ≡ out.old.stream.ghost_name }
+{
     match begin_there(alloc, options, store) {
-        Ok(story) => {
-            let Story {
-                mut hub,
-                subject,
-                plan,
-                text,
-            } = story;
-            let items = plan.items.as_slice();
-            let status = explain_items(
-                alloc,
-                &mut hub,
-                &subject,
-                text.as_slice(),
-                items,
-                options,
-                out,
-                err,
-            );
-            let_go(hub);
-            status
-        }
-        Err(why) => refuse(why, err),
+        Ok(story) => tell_story(alloc, story, options, out),
+        Err(why) => Err(why),
     }
 }
 
@@ -146,8 +141,32 @@ fn begin_there<'a, S: Store>(
     })
 }
 
-// Tells the items, from the beginning on, as far as they can happen, and then how the run ended, or why the next one can't.
-fn explain_items<O: Write, E: Write>(
+// The same of a story that was begun.
+fn tell_story<O: Write>(
+    alloc: Global,
+    story: Story<'_>,
+    options: &PartOptions<'_>,
+    out: &mut Counting<'_, O>,
+) -> Result<Reply, Refusal>
+    requires { IsAtStart story.hub.course.program story.hub.budget None story.hub }
+    ensures told { PlanTold story.entry.plan.items story.entry.hub (passage O.contents out.old out.new) (plain_reply [] result) }
+    ensures same_out { out.new.stream.ghost_name ≡ out.old.stream.ghost_name }
+{
+    let Story {
+        mut hub,
+        subject,
+        plan,
+        text,
+    } = story;
+    let text = text.as_slice();
+    let items = plan.items.as_slice();
+    let made = explain_items(alloc, &mut hub, &subject, text, items, options, out);
+    let_go(hub);
+    made
+}
+
+// Tells the items, from the beginning on, as far as they can happen, and returns how the run ended, or why the next one can't.
+fn explain_items<O: Write>(
     alloc: Global,
     hub: &mut Hub,
     subject: &Subject<'_>,
@@ -155,91 +174,57 @@ fn explain_items<O: Write, E: Write>(
     items: &[Item],
     options: &PartOptions<'_>,
     out: &mut Counting<'_, O>,
-    err: &mut Counting<'_, E>,
-) -> u8
+) -> Result<Reply, Refusal>
     requires start { IsAtStart hub.old.course.program hub.old.budget None hub.old }
-    requires fresh { (out.old.failed ≡ 0) × (err.old.calls ≡ 0) × (err.old.failed ≡ 0) }
-    ensures told { let output = between O.contents out.old out.new in
-        let errors = between E.contents err.old err.new in
-        PlanTold items.now hub.old output errors result }
+    ensures told { PlanTold items.now hub.old (passage O.contents out.old out.new) (plain_reply [] result) }
     ensures same_out { out.new.stream.ghost_name ≡ out.old.stream.ghost_name }
-    ensures same_err { err.new.stream.ghost_name ≡ err.old.stream.ghost_name }
 {
     match tell_items(alloc, hub, subject, items, options, out) {
         Ok(count) => {
             if count < items.len() {
-                refuse_item(alloc, hub, subject, text, count, &items[count], err)
+                Err(refuse_item(alloc, hub, subject, text, count, &items[count]))
             } else {
-                tell_end(alloc, hub, subject, out, err)
+                told_end(alloc, hub, subject)
             }
         }
-        Err(why) => cut_story(why, err),
+        Err(why) => Err(cut_by(why)),
     }
 }
 
-// Tells how the run ended, behind its story.
-fn tell_end<O: Write, E: Write>(
-    alloc: Global,
-    hub: &Hub,
-    subject: &Subject<'_>,
-    out: &mut Counting<'_, O>,
-    err: &mut Counting<'_, E>,
-) -> u8
-    requires fresh { (out.old.failed ≡ 0) × (err.old.calls ≡ 0) × (err.old.failed ≡ 0) }
-    ensures told { let output = between O.contents out.old out.new in
-        let errors = between E.contents err.old err.new in
-        spec.EndTold output errors result }
-    ensures same_out { out.new.stream.ghost_name ≡ out.old.stream.ghost_name }
-    ensures same_err { err.new.stream.ghost_name ≡ err.old.stream.ghost_name }
+// How the run ended, for the output behind its story.
+fn told_end(alloc: Global, hub: &Hub, subject: &Subject<'_>) -> Result<Reply, Refusal>
+    ensures { EndReplied (plain_reply [] result) }
 {
-    match end_words(alloc, hub, subject) {
-        Ok(words) => send_text(words.as_slice(), out, err),
-        Err(AllocError) => {
-            say(err, b"memory\n");
-            5
-        }
-    }
+    let words = end_words(alloc, hub, subject)?;
+    Ok(text_reply(alloc, words))
 }
 
-// Tells why the item, before which so many happened, can't happen next.
-fn refuse_item<E: Write>(
+// Why the item, before which so many happened, can't happen next.
+fn refuse_item(
     alloc: Global,
     hub: &Hub,
     subject: &Subject<'_>,
     text: &[u8],
     count: usize,
     item: &Item,
-    err: &mut Counting<'_, E>,
-) -> u8
-    requires fresh { err.old.failed ≡ 0 }
+) -> Refusal
     requires few { count + 1 < 2 ^ 64 }
-    ensures told { let errors = between E.contents err.old err.new in
-        spec.ItemRefused (count + 1) errors result }
-    ensures same_err { err.new.stream.ghost_name ≡ err.old.stream.ghost_name }
+    ensures { ItemRefused (count + 1) (plain_refusal [] result) }
 {
     let forms = subject.forms.as_slice();
     match explain_item(alloc, forms, text, hub, count + 1, item) {
-        Ok(told) => refuse(Refusal::Told(told, REFUSED), err),
-        Err(AllocError) => refuse(Refusal::Memory, err),
+        Ok(told) => Refusal::Told(told, REFUSED),
+        Err(AllocError) => Refusal::Memory,
     }
 }
 
-// Tells why a story was cut off.
-fn cut_story<E: Write>(why: Halt, err: &mut Counting<'_, E>) -> u8
-    requires fresh { err.old.failed ≡ 0 }
-    ensures told { let errors = between E.contents err.old err.new in
-        spec.HaltOutcome why errors result }
-    ensures same_err { err.new.stream.ghost_name ≡ err.old.stream.ghost_name }
+// What is said where a story was cut off.
+fn cut_by(why: Halt) -> Refusal
+    ensures { IsCutReply why (plain_refusal [] result) }
 {
     match why {
-        Halt::Memory => {
-            say(err, b"memory\n");
-            5
-        }
-        Halt::Write => {
-            say(err, b"cannot write output\n");
-            1
-        }
+        Halt::Memory => Refusal::Memory,
+        Halt::Write => Refusal::Line("cannot write output\n", 1),
     }
 }
 
@@ -253,11 +238,8 @@ fn tell_items<O: Write>(
     out: &mut Counting<'_, O>,
 ) -> Result<usize, Halt>
     requires start { IsAtStart hub.old.course.program hub.old.budget None hub.old }
-    requires fresh { out.old.failed ≡ 0 }
-    ensures ok { let output = between O.contents out.old out.new in
-        IfOk result (λ count. HasToldFirst hub.old items.now count hub.new output) }
-    ensures err { let output = between O.contents out.old out.new in
-        IfErr result (λ why. IsCutBy why output) }
+    ensures ok { IfOk result (λ count. HasToldFirst hub.old items.now count hub.new (passage O.contents out.old out.new)) }
+    ensures err { IfErr result (λ why. IsCutBy why (passage O.contents out.old out.new)) }
     ensures same_out { out.new.stream.ghost_name ≡ out.old.stream.ghost_name }
 {
     let text = subject.text.as_slice();
@@ -286,11 +268,8 @@ fn tell_until<O: Write>(
 ) -> Result<usize, Halt>
     requires none_out { NoneOut hub.old }
     requires knows { Knows hub.old.course narrator.old }
-    requires fresh { out.old.failed ≡ 0 }
-    ensures ok { let output = between O.contents out.old out.new in
-        IfOk result (λ count. HasToldFirst hub.old items.now count hub.new output) }
-    ensures err { let output = between O.contents out.old out.new in
-        IfErr result (λ why. IsCutBy why output) }
+    ensures ok { IfOk result (λ count. HasToldFirst hub.old items.now count hub.new (passage O.contents out.old out.new)) }
+    ensures err { IfErr result (λ why. IsCutBy why (passage O.contents out.old out.new)) }
     ensures same_out { out.new.stream.ghost_name ≡ out.old.stream.ghost_name }
 {
     for count in 0..items.len() {
@@ -360,10 +339,9 @@ fn is_asked_for(options: &PartOptions<'_>, number: usize) -> bool
 
 // Writes what was told and is not written yet, where that is a piece.
 fn spill_full<O: Write>(piece: &mut Vec<u8>, out: &mut Counting<'_, O>) -> Result<(), WriteFault>
-    requires fresh { out.old.failed ≡ 0 }
     ensures wrote { Writes (stream (O.contents out.old.stream.now) (O.contents out.new.stream.now)) }
-    ensures fine { OnOk result (out.new.failed ≡ 0) }
-    ensures failed { OnErr result (out.new.failed ≡ 1) }
+    ensures fine { OnOk result (out.new.failed ≡ out.old.failed) }
+    ensures failed { OnErr result (out.new.failed ≡ counted out.old.failed) }
     ensures same_out { out.new.stream.ghost_name ≡ out.old.stream.ghost_name }
 {
     if piece.len() < PIECE {
@@ -375,11 +353,9 @@ fn spill_full<O: Write>(piece: &mut Vec<u8>, out: &mut Counting<'_, O>) -> Resul
 
 // Writes what was told and is not written yet.
 fn spill<O: Write>(piece: &mut Vec<u8>, out: &mut Counting<'_, O>) -> Result<(), WriteFault>
-    requires fresh { out.old.failed ≡ 0 }
     ensures wrote { Writes (stream (O.contents out.old.stream.now) (O.contents out.new.stream.now)) }
-    ensures fine { OnOk result (out.new.failed ≡ 0) }
-    ensures failed { OnErr result (out.new.failed ≡ 1) }
-    ensures emptied { OnOk result (piece.new.items ≡ []) }
+    ensures fine { OnOk result (out.new.failed ≡ out.old.failed) }
+    ensures failed { OnErr result (out.new.failed ≡ counted out.old.failed) }
     ensures same_out { out.new.stream.ghost_name ≡ out.old.stream.ghost_name }
 {
     write_words(out, piece.as_slice())?;

@@ -1,23 +1,23 @@
 //! The command `explore`: a script runs many times, and it is told how the runs end.
 
-ghost use Rattle.std.specs.{Prelude.{◌≡◌, ◌+◌, ◌≤◌, ◌<◌, ◌^◌, IfOk, IfErr, IfSome, OnErr, OnOk, Some, false, length, option_map, true}, Fmt.{decimal}};
+ghost use Rattle.std.specs.{Prelude.{◌≡◌, [], ◌+◌, ◌≤◌, ◌<◌, ◌^◌, IfOk, IfErr, IfSome, OnErr, OnOk, Some, length, map, option_map, true}, Fmt.{decimal}};
 ghost use Rattle.std.specs.{List.{All}, String.{string_bytes}};
 ghost use Rattle.cml_check.specs.Sizes.{size_of};
 ghost use Rattle.cml_explore.specs.Explored.{HasMade, IsExplored, SoFar};
-ghost use Rattle.cml_host.specs.Between.{between};
-ghost use Rattle.cml_host.specs.Exploring.{AreSaved, AsksForRuns, ClassesKept, ExploreOutcome, FilesKept, IsNotSaved, IsToldOf, MadeTold, ProgramExplored, RunsTold, ScriptExplored, ShowsMarks, SomeSaved, StopsShowing, UnsavedTold, files_from, judged, saved_start, stop_at};
-ghost use Rattle.cml_host.specs.{Narrated.{IsCutBy, Writes}, Refused.{IsUnsaved, RefusesAs}, Scripts.{plain_script}, Stores.{Shelf, IsSaved}};
+ghost use Rattle.cml_host.specs.Behind.{bytes_of};
+ghost use Rattle.cml_host.specs.Exploring.{AreFiles, AsksForRuns, ExploreOutcome, ExploresSo, ProgramExplored, ScriptExplored, ShowsMarks, StopsShowing, TellsRuns, files_from, judged, saved_start, stop_at};
+ghost use Rattle.cml_host.specs.{Narrated.{IsCutBy, Writes}, Replies.{file, passage, plain_file, plain_of, plain_reply}, Scripts.{plain_script}, Stores.{IsUnchanged, Shelf}};
 ghost use Rattle.cml_host.specs.Exploring as spec;
 ghost use Rattle.cml_host.specs.declared.explain.Halt.TheVariants.{Write};
 ghost use Rattle.cml_hub.specs.Kept.{IsBudget};
 ghost use Rattle.cml_schedule.specs.Written.{schedule_text};
-ghost use Rattle.cml_stream.specs.Streams.{stream};
+ghost use Rattle.cml_stream.specs.{Counts.{counted}, Streams.{stream}};
 ghost use Rattle.cml_arguments.specs.Words.{IsDepth, IsRuns, saved_name};
 
 use crate::explain::Halt;
-use crate::output::{say, write_words};
-use crate::reason::{Reason, with_why};
-use crate::refusal::{Refusal, refuse};
+use crate::output::write_words;
+use crate::refusal::Refusal;
+use crate::reply::{File, Reply, carry_out, new_file};
 use crate::script::{Script, open_script};
 use crate::servers::find_servers;
 use crate::store::Store;
@@ -29,32 +29,9 @@ use cml_stream::Counting;
 use std::alloc::{AllocError, Global};
 use std::io::Write;
 use std::thread::Threads;
-use thiserror::Error;
 
 // The status where a run did not end well.
 const UNWELL: u8 = 6;
-
-// Why a file was not saved.
-#[derive(Debug, Drop, Error)]
-enum Unsaved {
-    // Out of memory.
-    #[error("out of memory")]
-    Memory,
-    // The store refused it under this name.
-    #[error("the file can't be written")]
-    Refused(String, Option<Reason>),
-}
-
-impl From<AllocError> for Unsaved {
-    ghost use Rattle.std.specs.Prelude.{◌≡◌};
-    ghost use Rattle.cml_host.specs.declared.explore.Unsaved.TheVariants.{Memory};
-
-    ghost from_gives = { λ _ e. e ≡ Memory };
-
-    fn from(_error: AllocError) -> Unsaved {
-        Unsaved::Memory
-    }
-}
 
 /// Makes the runs of the script that lies under its name that are asked for, tells how they ended, and saves a schedule of each kind of end, where
 /// that is asked for. Where the errors go to a terminal it is shown meanwhile how far it is. What is wrong with the script is explained.
@@ -70,48 +47,60 @@ pub fn explore_file<R: Threads + Sync, O: Write, E: Write, S: Store>(
     requires counts { IsRuns options.now.runs × IsBudget options.now.steps }
     requires depth { IfSome options.now.priority IsDepth }
     requires seeds { options.now.seed + options.now.runs ≤ 2 ^ 64 }
-    requires fresh { (out.old.calls ≡ 0) × (out.old.failed ≡ 0) × (err.old.calls ≡ 0) × (err.old.failed ≡ 0) }
-    ensures ran { let output = between O.contents out.old out.new in
-        let errors = between E.contents err.old err.new in
+    ensures ran { let output = passage O.contents out.old out.new in
+        let errors = passage E.contents err.old err.new in
         let shelf : Shelf = record { before = S.holds store.old; after = S.holds store.new } in
         ExploreOutcome options.now terminal output errors shelf result }
     ensures same_out { out.new.stream.ghost_name ≡ out.old.stream.ghost_name }
     ensures same_err { err.new.stream.ghost_name ≡ err.old.stream.ghost_name }
 {
+    let made = explore_there(rt, alloc, options, terminal, err, store);
+    carry_out(alloc, "", &made, out, err, store)
+}
+
+// Makes the runs, shows how far it is, and returns what is told of them.
+fn explore_there<R: Threads + Sync, E: Write, S: Store>(
+    rt: &R,
+    alloc: Global,
+    options: &ExploreOptions<'_>,
+    shows: bool,
+    err: &mut Counting<'_, E>,
+    store: &mut S,
+) -> Result<Reply, Refusal>
+    requires counts { IsRuns options.now.runs × IsBudget options.now.steps }
+    requires depth { IfSome options.now.priority IsDepth }
+    requires seeds { options.now.seed + options.now.runs ≤ 2 ^ 64 }
+    ensures told { ExploresSo options.now shows (S.holds store.old) (passage E.contents err.old err.new) (plain_reply [] result) }
+    ensures same { IsUnchanged (S.holds store.old) (S.holds store.new) }
+    ensures same_err { err.new.stream.ghost_name ≡ err.old.stream.ghost_name }
+{
     match open_script(alloc, options.script, true, store) {
-        Ok(script) => explore_opened(rt, alloc, &script, options, terminal, out, err, store),
-        Err(why) => refuse(why, err),
+        Ok(script) => explore_opened(rt, alloc, &script, options, shows, err),
+        Err(why) => Err(why),
     }
 }
 
-// Makes the runs of the script, where it has the functions that are named as those of servers.
-fn explore_opened<R: Threads + Sync, O: Write, E: Write, S: Store>(
+// The same of the script, where it has the functions that are named as those of servers.
+fn explore_opened<R: Threads + Sync, E: Write>(
     rt: &R,
     alloc: Global,
     script: &Script,
     options: &ExploreOptions<'_>,
     shows: bool,
-    out: &mut Counting<'_, O>,
     err: &mut Counting<'_, E>,
-    store: &mut S,
-) -> u8
+) -> Result<Reply, Refusal>
     requires counts { IsRuns options.now.runs × IsBudget options.now.steps }
     requires depth { IfSome options.now.priority IsDepth }
     requires seeds { options.now.seed + options.now.runs ≤ 2 ^ 64 }
-    requires fresh { (out.old.calls ≡ 0) × (out.old.failed ≡ 0) × (err.old.failed ≡ 0) }
-    ensures ran { let output = between O.contents out.old out.new in
-        let errors = between E.contents err.old err.new in
-        let shelf : Shelf = record { before = S.holds store.old; after = S.holds store.new } in
-        ScriptExplored options.now shows (plain_script script.now) output errors shelf result }
-    ensures same_out { out.new.stream.ghost_name ≡ out.old.stream.ghost_name }
+    ensures told { ScriptExplored options.now shows (plain_script script.now) (passage E.contents err.old err.new) (plain_reply [] result) }
     ensures same_err { err.new.stream.ghost_name ≡ err.old.stream.ghost_name }
 {
     match find_servers(alloc, script, options.servers.as_slice()) {
         Ok(servers) => {
             let asked = asked_for(options, servers.as_slice());
-            explore_program(rt, alloc, script, options, &asked, shows, out, err, store)
+            explore_program(rt, alloc, script, options, &asked, shows, err)
         }
-        Err(why) => refuse(why, err),
+        Err(why) => Err(why),
     }
 }
 
@@ -152,27 +141,20 @@ fn stop(word: Option<&str>) -> Option<Until>
     }
 }
 
-// Makes the runs, and tells of them.
-fn explore_program<R: Threads + Sync, O: Write, E: Write, S: Store>(
+// Makes the runs, and returns what is told of them.
+fn explore_program<R: Threads + Sync, E: Write>(
     rt: &R,
     alloc: Global,
     script: &Script,
     options: &ExploreOptions<'_>,
     asked: &Asked<'_>,
     shows: bool,
-    out: &mut Counting<'_, O>,
     err: &mut Counting<'_, E>,
-    store: &mut S,
-) -> u8
+) -> Result<Reply, Refusal>
     requires counts { IsRuns asked.now.runs × IsBudget asked.now.budget }
     requires seeds { asked.now.first + asked.now.runs ≤ 2 ^ 64 }
     requires asks { AsksForRuns options.now asked.now.servers.now asked.now }
-    requires fresh { (out.old.calls ≡ 0) × (out.old.failed ≡ 0) × (err.old.failed ≡ 0) }
-    ensures ran { let output = between O.contents out.old out.new in
-        let errors = between E.contents err.old err.new in
-        let shelf : Shelf = record { before = S.holds store.old; after = S.holds store.new } in
-        ProgramExplored options.now shows script.now.program asked.now.servers.now output errors shelf result }
-    ensures same_out { out.new.stream.ghost_name ≡ out.old.stream.ghost_name }
+    ensures told { ProgramExplored options.now shows script.now.program asked.now.servers.now (passage E.contents err.old err.new) (plain_reply [] result) }
     ensures same_err { err.new.stream.ghost_name ≡ err.old.stream.ghost_name }
 {
     match explored(
@@ -184,9 +166,9 @@ fn explore_program<R: Threads + Sync, O: Write, E: Write, S: Store>(
         shows,
         err,
     ) {
-        Ok(made) => tell_made(alloc, script, options, asked, &made, out, err, store),
-        Err(Halt::Memory) => refuse(Refusal::Memory, err),
-        Err(Halt::Write) => 1,
+        Ok(made) => Ok(told_made(alloc, script, options, asked, &made)?),
+        Err(Halt::Memory) => Err(Refusal::Memory),
+        Err(Halt::Write) => Err(Refusal::Line("", 1)),
     }
 }
 
@@ -202,12 +184,10 @@ fn explored<R: Threads + Sync, E: Write>(
 ) -> Result<Explored, Halt>
     requires counts { IsRuns asked.now.runs × IsBudget asked.now.budget }
     requires seeds { asked.now.first + asked.now.runs ≤ 2 ^ 64 }
-    requires fresh { err.old.failed ≡ 0 }
     ensures made { IfOk result (IsExplored program.now asked.now) }
-    ensures ok { let errors = between E.contents err.old err.new in
-        OnOk result (ShowsMarks shows errors.bytes × (err.new.failed ≡ 0)) }
-    ensures err { let errors = between E.contents err.old err.new in
-        IfErr result (λ why. StopsShowing shows why errors) }
+    ensures ok { let errors = passage E.contents err.old err.new in
+        OnOk result (ShowsMarks shows (bytes_of errors) × (err.new.failed ≡ err.old.failed)) }
+    ensures err { IfErr result (λ why. StopsShowing shows why (passage E.contents err.old err.new)) }
     ensures same_err { err.new.stream.ghost_name ≡ err.old.stream.ghost_name }
 {
     match make_runs(rt, alloc, program, asked, workers, shows, err) {
@@ -235,12 +215,10 @@ fn make_runs<R: Threads + Sync, E: Write>(
 ) -> Result<Explored, Halt>
     requires counts { IsRuns asked.now.runs × IsBudget asked.now.budget }
     requires seeds { asked.now.first + asked.now.runs ≤ 2 ^ 64 }
-    requires fresh { err.old.failed ≡ 0 }
     ensures made { IfOk result (IsExplored program.now asked.now) }
-    ensures ok { let errors = between E.contents err.old err.new in
-        OnOk result (ShowsMarks shows errors.bytes × (err.new.failed ≡ 0)) }
-    ensures err { let errors = between E.contents err.old err.new in
-        IfErr result (λ why. StopsShowing shows why errors) }
+    ensures ok { let errors = passage E.contents err.old err.new in
+        OnOk result (ShowsMarks shows (bytes_of errors) × (err.new.failed ≡ err.old.failed)) }
+    ensures err { IfErr result (λ why. StopsShowing shows why (passage E.contents err.old err.new)) }
     ensures same_err { err.new.stream.ghost_name ≡ err.old.stream.ghost_name }
 {
     let mut made = Explored::new(alloc);
@@ -288,11 +266,9 @@ fn show_round<E: Write>(
     err: &mut Counting<'_, E>,
 ) -> Result<(), Halt>
     requires few { (before ≤ count) × (count ≤ runs) × (runs ≤ 1000000) }
-    requires fresh { err.old.failed ≡ 0 }
-    ensures ok { let errors = between E.contents err.old err.new in
-        OnOk result (ShowsMarks shows errors.bytes × (err.new.failed ≡ 0)) }
-    ensures err { let errors = between E.contents err.old err.new in
-        IfErr result (λ why. StopsShowing shows why errors) }
+    ensures ok { let errors = passage E.contents err.old err.new in
+        OnOk result (ShowsMarks shows (bytes_of errors) × (err.new.failed ≡ err.old.failed)) }
+    ensures err { IfErr result (λ why. StopsShowing shows why (passage E.contents err.old err.new)) }
     ensures same_err { err.new.stream.ghost_name ≡ err.old.stream.ghost_name }
 {
     if shows {
@@ -311,11 +287,9 @@ fn show_from<E: Write>(
     err: &mut Counting<'_, E>,
 ) -> Result<(), Halt>
     requires few { (before ≤ count) × (count ≤ runs) × (runs ≤ 1000000) }
-    requires fresh { err.old.failed ≡ 0 }
-    ensures ok { let errors = between E.contents err.old err.new in
-        OnOk result (Writes errors.bytes × (err.new.failed ≡ 0)) }
-    ensures err { let errors = between E.contents err.old err.new in
-        IfErr result (λ why. IsCutBy why errors) }
+    ensures ok { let errors = passage E.contents err.old err.new in
+        OnOk result (Writes (bytes_of errors) × (err.new.failed ≡ err.old.failed)) }
+    ensures err { IfErr result (λ why. IsCutBy why (passage E.contents err.old err.new)) }
     ensures same_err { err.new.stream.ghost_name ≡ err.old.stream.ghost_name }
 {
     for made in before..count {
@@ -332,11 +306,9 @@ fn show_next<E: Write>(
     err: &mut Counting<'_, E>,
 ) -> Result<(), Halt>
     requires few { (made < runs) × (runs ≤ 1000000) }
-    requires fresh { err.old.failed ≡ 0 }
-    ensures ok { let errors = between E.contents err.old err.new in
-        OnOk result (Writes errors.bytes × (err.new.failed ≡ 0)) }
-    ensures err { let errors = between E.contents err.old err.new in
-        IfErr result (λ why. IsCutBy why errors) }
+    ensures ok { let errors = passage E.contents err.old err.new in
+        OnOk result (Writes (bytes_of errors) × (err.new.failed ≡ err.old.failed)) }
+    ensures err { IfErr result (λ why. IsCutBy why (passage E.contents err.old err.new)) }
     ensures same_err { err.new.stream.ghost_name ≡ err.old.stream.ghost_name }
 {
     let now = percent(runs, made);
@@ -364,11 +336,9 @@ fn show_line<E: Write>(
     count: u64,
     err: &mut Counting<'_, E>,
 ) -> Result<(), Halt>
-    requires fresh { err.old.failed ≡ 0 }
-    ensures ok { let errors = between E.contents err.old err.new in
-        OnOk result (Writes errors.bytes × (err.new.failed ≡ 0)) }
-    ensures err { let errors = between E.contents err.old err.new in
-        IfErr result (λ why. IsCutBy why errors) }
+    ensures ok { let errors = passage E.contents err.old err.new in
+        OnOk result (Writes (bytes_of errors) × (err.new.failed ≡ err.old.failed)) }
+    ensures err { IfErr result (λ why. IsCutBy why (passage E.contents err.old err.new)) }
     ensures same_err { err.new.stream.ghost_name ≡ err.old.stream.ghost_name }
 {
     let line = format!(in alloc; "\r{count} of {runs} runs")?;
@@ -378,10 +348,9 @@ fn show_line<E: Write>(
 
 // Takes away what is shown, where anything is.
 fn erase<E: Write>(shows: bool, err: &mut Counting<'_, E>) -> Result<(), Halt>
-    requires fresh { err.old.failed ≡ 0 }
     ensures shows { ShowsMarks shows (stream (E.contents err.old.stream.now) (E.contents err.new.stream.now)) }
-    ensures ok { OnOk result (err.new.failed ≡ 0) }
-    ensures err { IfErr result (λ why. (why ≡ Write) × (err.new.failed ≡ 1)) }
+    ensures ok { OnOk result (err.new.failed ≡ err.old.failed) }
+    ensures err { IfErr result (λ why. (why ≡ Write) × (err.new.failed ≡ counted err.old.failed)) }
     ensures same_err { err.new.stream.ghost_name ≡ err.old.stream.ghost_name }
 {
     if shows {
@@ -392,40 +361,27 @@ fn erase<E: Write>(shows: bool, err: &mut Counting<'_, E>) -> Result<(), Halt>
     }
 }
 
-// Tells of the runs, and saves a schedule of each class, where that is asked for. What is told is made before anything is written.
-fn tell_made<O: Write, E: Write, S: Store>(
+// What is told of the runs, and the files that are saved of them.
+fn told_made(
     alloc: Global,
     script: &Script,
     options: &ExploreOptions<'_>,
     asked: &Asked<'_>,
     made: &Explored,
-    out: &mut Counting<'_, O>,
-    err: &mut Counting<'_, E>,
-    store: &mut S,
-) -> u8
+) -> Result<Reply, AllocError>
     requires budget { IsBudget asked.now.budget }
     requires seeds { asked.now.first + made.now.runs ≤ 2 ^ 64 }
-    requires fresh { (out.old.calls ≡ 0) × (out.old.failed ≡ 0) × (err.old.failed ≡ 0) }
-    ensures told { let output = between O.contents out.old out.new in
-        let errors = between E.contents err.old err.new in
-        let shelf : Shelf = record { before = S.holds store.old; after = S.holds store.new } in
-        MadeTold options.now script.now.program made.now output errors shelf result }
-    ensures same_out { out.new.stream.ghost_name ≡ out.old.stream.ghost_name }
-    ensures same_err { err.new.stream.ghost_name ≡ err.old.stream.ghost_name }
+    ensures { IfOk result (λ reply. TellsRuns (saved_start options.now) options.now.steps script.now.program made.now (plain_of reply)) }
 {
-    match told_of(alloc, script, options.script, asked, made) {
-        Ok(said) => tell_said(
-            alloc,
-            &script.program,
-            options,
-            made,
-            said.as_slice(),
-            out,
-            err,
-            store,
-        ),
-        Err(AllocError) => refuse(Refusal::Memory, err),
-    }
+    let output = told_of(alloc, script, options.script, asked, made)?;
+    let program = &script.program;
+    let files = asked_files(alloc, program, options.steps, options.save, made.classes())?;
+    Ok(Reply {
+        output,
+        files,
+        words: Vec::new(alloc),
+        status: judge(made),
+    })
 }
 
 // What is told of the runs.
@@ -444,64 +400,6 @@ fn told_of(
     explain_runs(alloc, name, text, forms, &script.program, *asked, made)
 }
 
-// Writes what is told, and saves a schedule of each class, where that is asked for.
-fn tell_said<O: Write, E: Write, S: Store>(
-    alloc: Global,
-    program: &Prog,
-    options: &ExploreOptions<'_>,
-    made: &Explored,
-    said: &[u8],
-    out: &mut Counting<'_, O>,
-    err: &mut Counting<'_, E>,
-    store: &mut S,
-) -> u8
-    requires fresh { (out.old.failed ≡ 0) × (err.old.failed ≡ 0) }
-    ensures told { let output = between O.contents out.old out.new in
-        let errors = between E.contents err.old err.new in
-        let shelf : Shelf = record { before = S.holds store.old; after = S.holds store.new } in
-        RunsTold false (saved_start options.now) options.now.steps program.now made.now output errors shelf result }
-    ensures same_out { out.new.stream.ghost_name ≡ out.old.stream.ghost_name }
-    ensures same_err { err.new.stream.ghost_name ≡ err.old.stream.ghost_name }
-{
-    match write_words(out, said) {
-        Ok(()) => keep_files(
-            alloc,
-            program,
-            options.steps,
-            options.save,
-            made,
-            err,
-            store,
-        ),
-        Err(_) => {
-            say(err, b"cannot write output\n");
-            1
-        }
-    }
-}
-
-// Saves a schedule of each class, where that is asked for, and returns the status.
-fn keep_files<E: Write, S: Store>(
-    alloc: Global,
-    program: &Prog,
-    budget: u64,
-    start: Option<&str>,
-    made: &Explored,
-    err: &mut Counting<'_, E>,
-    store: &mut S,
-) -> u8
-    requires fresh { err.old.failed ≡ 0 }
-    ensures kept { let errors = between E.contents err.old err.new in
-        let shelf : Shelf = record { before = S.holds store.old; after = S.holds store.new } in
-        ClassesKept false (option_map (λ start. start.now) start.entry) budget program.now made.now errors shelf result }
-    ensures same_err { err.new.stream.ghost_name ≡ err.old.stream.ghost_name }
-{
-    match start {
-        Some(start) => keep_classes(alloc, program, budget, start, made, err, store),
-        None => judge(made),
-    }
-}
-
 // The status of the runs.
 fn judge(made: &Explored) -> u8
     ensures { result ≡ judged made.now.well }
@@ -509,113 +407,75 @@ fn judge(made: &Explored) -> u8
     if made.is_well() { 0 } else { UNWELL }
 }
 
-// Saves a schedule of each class, and returns the status.
-fn keep_classes<E: Write, S: Store>(
+// A file for each class, where that is asked for.
+fn asked_files(
+    alloc: Global,
+    program: &Prog,
+    budget: u64,
+    start: Option<&str>,
+    classes: &Classes,
+) -> Result<Vec<File>, AllocError>
+    ensures { IfOk result (λ files. AreFiles (option_map (λ start. start.now) start.entry) budget program.now classes.now (map plain_file files.items)) }
+{
+    match start {
+        Some(start) => ranked_files(alloc, program, budget, start, classes),
+        None => Ok(Vec::new(alloc)),
+    }
+}
+
+// A file for each class, in the order in which they are told.
+fn ranked_files(
     alloc: Global,
     program: &Prog,
     budget: u64,
     start: &str,
-    made: &Explored,
-    err: &mut Counting<'_, E>,
-    store: &mut S,
-) -> u8
-    requires fresh { err.old.failed ≡ 0 }
-    ensures kept { let errors = between E.contents err.old err.new in
-        let shelf : Shelf = record { before = S.holds store.old; after = S.holds store.new } in
-        ClassesKept false (Some start.now) budget program.now made.now errors shelf result }
-    ensures same_err { err.new.stream.ghost_name ≡ err.old.stream.ghost_name }
+    classes: &Classes,
+) -> Result<Vec<File>, AllocError>
+    ensures { IfOk result (λ files. AreFiles (Some start.now) budget program.now classes.now (map plain_file files.items)) }
 {
-    let classes = made.classes();
-    match classes.ranking(alloc) {
-        Ok(numbers) => keep_ranked(
-            alloc,
-            program,
-            budget,
-            start,
-            made,
-            numbers.as_slice(),
-            err,
-            store,
-        ),
-        Err(AllocError) => refuse(Refusal::Memory, err),
-    }
+    let numbers = classes.ranking(alloc)?;
+    class_files(alloc, program, budget, start, classes, numbers.as_slice())
 }
 
-// Saves a schedule of each of the classes of these numbers, and returns the status.
-fn keep_ranked<E: Write, S: Store>(
-    alloc: Global,
-    program: &Prog,
-    budget: u64,
-    start: &str,
-    made: &Explored,
-    numbers: &[usize],
-    err: &mut Counting<'_, E>,
-    store: &mut S,
-) -> u8
-    requires fresh { err.old.failed ≡ 0 }
-    requires below { All (λ n. n < length made.now.classes) numbers.now }
-    ensures kept { let errors = between E.contents err.old err.new in
-        let shelf : Shelf = record { before = S.holds store.old; after = S.holds store.new } in
-        FilesKept false (files_from start.now budget program.now made.now.classes 1 numbers.now) made.now.well errors shelf result }
-    ensures same_err { err.new.stream.ghost_name ≡ err.old.stream.ghost_name }
-{
-    match save_classes(
-        alloc,
-        program,
-        budget,
-        start,
-        made.classes(),
-        numbers,
-        store,
-    ) {
-        Ok(()) => judge(made),
-        Err(why) => refuse_unsaved(alloc, why, err),
-    }
-}
-
-// Saves a schedule of each of the classes of these numbers.
-fn save_classes<S: Store>(
+/// A file with a schedule of each of the classes of these numbers.
+///
+/// # Errors
+/// Out of memory.
+pub fn class_files(
     alloc: Global,
     program: &Prog,
     budget: u64,
     start: &str,
     classes: &Classes,
     numbers: &[usize],
-    store: &mut S,
-) -> Result<(), Unsaved>
+) -> Result<Vec<File>, AllocError>
     requires below { All (λ n. n < length classes.now) numbers.now }
-    ensures ok { OnOk result (AreSaved (files_from start.now budget program.now classes.now 1 numbers.now) (S.holds store.old) (S.holds store.new)) }
-    ensures err { let shelf : Shelf = record { before = S.holds store.old; after = S.holds store.new } in
-        IfErr result (λ why. SomeSaved (files_from start.now budget program.now classes.now 1 numbers.now) why shelf) }
+    ensures { IfOk result (λ files. map plain_file files.items ≡ files_from start.now budget program.now classes.now 1 numbers.now) }
 {
+    let mut files = Vec::new(alloc);
     for index in 0..numbers.len() {
         let class = classes.class(numbers[index]);
         let items = class.summary.shortest();
-        save_class(alloc, program, budget, start, index + 1, items, store)?;
+        let file = class_file(alloc, program, budget, start, index + 1, items)?;
+        files.push(file)?;
     }
-    Ok(())
+    Ok(files)
 }
 
-// Saves a schedule of the class that comes in this place in the answer, counted from 1.
-fn save_class<S: Store>(
+// The file of the class that comes in this place in the answer, counted from 1, with this schedule.
+fn class_file(
     alloc: Global,
     program: &Prog,
     budget: u64,
     start: &str,
     place: usize,
     items: &[Item],
-    store: &mut S,
-) -> Result<(), Unsaved>
-    ensures ok { OnOk result (IsSaved (S.holds store.old) (S.holds store.new) (saved_name start.now (decimal place)) (schedule_text budget (size_of program.now) items.now)) }
-    ensures err { let shelf : Shelf = record { before = S.holds store.old; after = S.holds store.new } in
-        IfErr result (λ why. IsNotSaved (saved_name start.now (decimal place)) why shelf) }
+) -> Result<File, AllocError>
+    ensures { IfOk result (λ f. plain_file f ≡ file true (saved_name start.now (decimal place)) (schedule_text budget (size_of program.now) items.now)) }
 {
     let text = schedule_text(alloc, budget, program.size(), items)?;
     let name = name_of(alloc, start, place)?;
-    match store.save(name.as_str(), text.as_bytes()) {
-        Ok(()) => Ok(()),
-        Err(fault) => Err(Unsaved::Refused(name, fault.reason())),
-    }
+    new_file(alloc, true, name.as_str(), text.into_bytes())
 }
 
 // The name of the file of the class that comes in this place.
@@ -623,35 +483,4 @@ fn name_of(alloc: Global, start: &str, place: usize) -> Result<String, AllocErro
     ensures { IfOk result (λ name. string_bytes name ≡ saved_name start.now (decimal place)) }
 {
     format!(in alloc; "{start}-{place}.schedule")
-}
-
-// Tells why a file was not saved.
-fn refuse_unsaved<E: Write>(alloc: Global, why: Unsaved, err: &mut Counting<'_, E>) -> u8
-    requires fresh { err.old.failed ≡ 0 }
-    ensures told { let errors = between E.contents err.old err.new in
-        UnsavedTold why errors result }
-    ensures same_err { err.new.stream.ghost_name ≡ err.old.stream.ghost_name }
-{
-    refuse(told_unsaved(alloc, why), err)
-}
-
-// How it is told that a file was not saved.
-fn told_unsaved(alloc: Global, why: Unsaved) -> Refusal
-    ensures { RefusesAs (IsToldOf why) result }
-{
-    match why {
-        Unsaved::Memory => Refusal::Memory,
-        Unsaved::Refused(name, why) => match unsaved_told(alloc, name.as_str(), why) {
-            Ok(told) => Refusal::Told(told, 1),
-            Err(AllocError) => Refusal::Memory,
-        },
-    }
-}
-
-// What is told of the file of this name, which can't be written.
-fn unsaved_told(alloc: Global, name: &str, why: Option<Reason>) -> Result<Vec<u8>, AllocError>
-    ensures { IfOk result (λ told. IsUnsaved true name.now told.items) }
-{
-    let line = format!(in alloc; "cannot write {name}\n")?;
-    with_why(alloc, line.as_bytes(), name, true, why)
 }

@@ -14,6 +14,7 @@ mod picture;
 mod reason;
 mod refusal;
 mod replay;
+mod reply;
 mod reports;
 mod run;
 mod script;
@@ -24,6 +25,7 @@ mod step;
 mod store;
 mod tell;
 mod trace;
+mod verify;
 mod workers;
 
 pub use command::{run_command, run_command_counted};

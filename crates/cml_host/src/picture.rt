@@ -1,24 +1,19 @@
-//! The picture of a run that is over: how it is made, and how it is saved.
+//! The picture of a run that is over.
 
-ghost use Rattle.std.specs.Prelude.{◌≡◌, IfOk, Some, is_some, option_map, true};
-ghost use Rattle.cml_host.specs.{Between.{between}, Drawn.{AllDrawn}, Plans.{Opens}};
-ghost use Rattle.cml_host.specs.Running.{IsDrawnKept, IsPictureFor, IsRefusalOf, IsRunDrawn, IsSayable, PictureKept, wanted_of};
-ghost use Rattle.cml_host.specs.Stores.{Shelf};
+ghost use Rattle.std.specs.Prelude.{◌≡◌, ℕ, IfOk, List, Some, is_some, option_map, true};
+ghost use Rattle.cml_host.specs.{Drawn.{AllDrawn}, Plans.{Opens}, Replies.{plain_file, plain_of}};
+ghost use Rattle.cml_host.specs.Running.{IsPictured, IsRunDrawn, and_saves, but_says, wanted_of};
 ghost use Rattle.cml_hub.specs.Runs.{stands};
 ghost use Rattle.cml_step.specs.Calls.{text_of};
 
-use crate::close::{Asked, Closing, Subject, say_end};
+use crate::close::{Asked, Subject};
 use crate::draw::TOO_LONG;
 use crate::opening::begin;
-use crate::output::say;
-use crate::run::{Record, refusal_of, save_record};
-use crate::store::Store;
+use crate::reply::{File, Reply, new_file};
 use crate::tell::let_go;
 use cml_hub::{Hub, Item};
 use cml_picture::{DrawFault, draw};
-use cml_stream::Counting;
 use std::alloc::{AllocError, Global};
-use std::io::Write;
 
 /// A picture that is asked for.
 #[derive(Clone, Copy)]
@@ -27,17 +22,6 @@ pub struct Wanted<'a> {
     pub name: &'a str,
     /// The script that is drawn.
     pub subject: &'a Subject<'a>,
-}
-
-/// What there is to save of a picture.
-#[derive(Drop)]
-pub enum Picture<'a> {
-    /// Nothing, since none is asked for.
-    Unasked,
-    /// The picture, under this name.
-    Drawn(&'a str, Record),
-    /// Nothing, since there is too much to draw.
-    TooMany,
 }
 
 /// The picture that is asked for under this name, where the script is kept.
@@ -49,35 +33,74 @@ pub fn wanted_from<'a>(asked: &'a Asked<'a>, name: Option<&'a str>) -> Option<Wa
     Some(Wanted { name, subject })
 }
 
-/// What there is to save of the picture that is asked for of the run of this hub.
+/// The reply with the picture of the run of this hub that is asked for: it is saved behind the other files; or where there is too much to draw,
+/// that is said in place of how the run ended.
 ///
 /// # Errors
 /// Out of memory.
-pub fn make_picture<'a>(
+pub fn with_picture(
     alloc: Global,
     hub: &Hub,
-    wanted: &Option<Wanted<'a>>,
-) -> Result<Picture<'a>, AllocError>
-    ensures { IfOk result (λ picture. IsPictureFor (option_map (λ wanted. wanted.name.now) wanted.now) hub.now picture) }
+    explains: bool,
+    wanted: &Option<Wanted<'_>>,
+    bare: Reply,
+) -> Result<Reply, AllocError>
+    ensures { IfOk result (λ reply. IsPictured explains (option_map (λ wanted. wanted.name.now) wanted.now) hub.now.course.program hub.now.budget hub.now.course.items (plain_of bare) (plain_of reply)) }
 {
     match wanted {
-        Some(wanted) => make_wanted(alloc, hub, wanted),
-        None => Ok(Picture::Unasked),
+        Some(wanted) => add_picture(alloc, hub, explains, wanted, bare),
+        None => Ok(bare),
     }
 }
 
-// What there is to save of this picture.
+// The reply with this picture.
 #[inline(never)]
-fn make_wanted<'a>(alloc: Global, hub: &Hub, wanted: &Wanted<'a>) -> Result<Picture<'a>, AllocError>
-    ensures { IfOk result (λ picture. IsPictureFor (Some wanted.now.name.now) hub.now picture) }
+fn add_picture(
+    alloc: Global,
+    hub: &Hub,
+    explains: bool,
+    wanted: &Wanted<'_>,
+    bare: Reply,
+) -> Result<Reply, AllocError>
+    ensures { IfOk result (λ reply. IsPictured explains (Some wanted.now.name.now) hub.now.course.program hub.now.budget hub.now.course.items (plain_of bare) (plain_of reply)) }
 {
     match draw_run(alloc, hub, wanted.subject)? {
-        Some(bytes) => {
-            let refused = refusal_of(alloc, wanted.name)?;
-            Ok(Picture::Drawn(wanted.name, Record { bytes, refused }))
-        }
-        None => Ok(Picture::TooMany),
+        Some(bytes) => and_file(new_file(alloc, explains, wanted.name, bytes)?, bare),
+        None => too_long(alloc, bare),
     }
+}
+
+// The reply with one file more.
+fn and_file(file: File, bare: Reply) -> Result<Reply, AllocError>
+    ensures { IfOk result (λ reply. plain_of reply ≡ and_saves (plain_of bare) (plain_file file)) }
+{
+    let Reply {
+        output,
+        mut files,
+        words,
+        status,
+    } = bare;
+    files.push(file)?;
+    Ok(Reply {
+        output,
+        files,
+        words,
+        status,
+    })
+}
+
+// The reply where there is too much to draw.
+fn too_long(alloc: Global, bare: Reply) -> Result<Reply, AllocError>
+    ensures { IfOk result (λ reply. (told : List ℕ) × (plain_of reply ≡ but_says (plain_of bare) told)) }
+{
+    let Reply { output, files, .. } = bare;
+    let words = Vec::from_slice(alloc, TOO_LONG)?;
+    Ok(Reply {
+        output,
+        files,
+        words,
+        status: 1,
+    })
 }
 
 // The picture of the run of this hub, or none where there is too much to draw.
@@ -117,52 +140,5 @@ fn draw_all(
         Err(DrawFault::TooMany) => Ok(None),
         Err(DrawFault::Memory) => Err(AllocError),
         Err(DrawFault::BadItem(_)) => unreachable!(),
-    }
-}
-
-/// Saves the picture, where there is one, and says how the run ended; or says why the picture is not saved. It returns the status.
-pub fn close_with<E: Write, S: Store>(
-    alloc: Global,
-    picture: &Picture<'_>,
-    closing: &Closing,
-    err: &mut Counting<'_, E>,
-    store: &mut S,
-) -> u8
-    requires fresh { err.old.failed ≡ 0 }
-    requires sayable { IsSayable picture.now }
-    ensures kept { let errors = between E.contents err.old err.new in
-        let shelf : Shelf = record { before = S.holds store.old; after = S.holds store.new } in
-        PictureKept closing.now picture.now errors shelf result }
-    ensures same_err { err.new.stream.ghost_name ≡ err.old.stream.ghost_name }
-{
-    match picture {
-        Picture::Unasked => say_end(closing, err),
-        Picture::Drawn(name, made) => save_drawn(alloc, name, made, closing, err, store),
-        Picture::TooMany => {
-            say(err, TOO_LONG);
-            1
-        }
-    }
-}
-
-// Saves the picture under this name, and says how the run ended; or says that it can't be saved.
-fn save_drawn<E: Write, S: Store>(
-    alloc: Global,
-    name: &str,
-    made: &Record,
-    closing: &Closing,
-    err: &mut Counting<'_, E>,
-    store: &mut S,
-) -> u8
-    requires fresh { err.old.failed ≡ 0 }
-    requires sayable { IsRefusalOf name.now made.now }
-    ensures kept { let errors = between E.contents err.old err.new in
-        let shelf : Shelf = record { before = S.holds store.old; after = S.holds store.new } in
-        IsDrawnKept closing.now name.now made.now.bytes.items errors shelf result }
-    ensures same_err { err.new.stream.ghost_name ≡ err.old.stream.ghost_name }
-{
-    match save_record(alloc, name, closing.words.is_some(), made, err, store) {
-        Ok(()) => say_end(closing, err),
-        Err(status) => status,
     }
 }

@@ -1,14 +1,11 @@
-//! Refusals: why a command goes no further, and how that is said; and how a command ends that gives a text.
+//! Refusals: why a command goes no further.
 
-ghost use Rattle.std.specs.{Prelude.{◌≡◌, IfOk, IfErr}};
-ghost use Rattle.cml_host.specs.{Between.{between}, Refused.{IsExplained, IsUnread, RefusesAs, TellsRefusal, IsReplied, TellsUnread, unread_line}, Stores.{IsLoaded, IsUnchanged}};
+ghost use Rattle.std.specs.Prelude.{IfErr, IfOk};
+ghost use Rattle.cml_host.specs.{Refused.{IsExplained, IsUnread, RefusesAs, TellsUnread, unread_line}, Stores.{IsLoaded, IsUnchanged}};
 
-use crate::output::{say, send_text};
 use crate::reason::{Reason, with_why};
 use crate::store::{Store, StoreFault};
-use cml_stream::Counting;
 use std::alloc::{AllocError, Global};
-use std::io::Write;
 use thiserror::Error;
 
 /// Why a command goes no further.
@@ -17,6 +14,9 @@ pub enum Refusal {
     /// This is for the errors, and this is the status.
     #[error("the file is refused")]
     Told(Vec<u8>, u8),
+    /// This line is for the errors, and this is the status.
+    #[error("{0}")]
+    Line(&'static str, u8),
     /// Out of memory.
     #[error("out of memory")]
     Memory,
@@ -30,44 +30,6 @@ impl From<AllocError> for Refusal {
 
     fn from(_error: AllocError) -> Refusal {
         Refusal::Memory
-    }
-}
-
-/// Says why the command goes no further, and returns the status.
-pub fn refuse<E: Write>(why: Refusal, err: &mut Counting<'_, E>) -> u8
-    requires fresh { err.old.failed ≡ 0 }
-    ensures refused { let errors = between E.contents err.old err.new in
-        TellsRefusal why errors result }
-    ensures same_err { err.new.stream.ghost_name ≡ err.old.stream.ghost_name }
-{
-    match why {
-        Refusal::Told(told, status) => {
-            say(err, told.as_slice());
-            status
-        }
-        Refusal::Memory => {
-            say(err, b"memory\n");
-            5
-        }
-    }
-}
-
-/// Writes the text that a command gives, or says why it gives none, and returns the status.
-pub fn reply<O: Write, E: Write>(
-    made: Result<Vec<u8>, Refusal>,
-    out: &mut Counting<'_, O>,
-    err: &mut Counting<'_, E>,
-) -> u8
-    requires fresh { (out.old.calls ≡ 0) × (out.old.failed ≡ 0) × (err.old.calls ≡ 0) × (err.old.failed ≡ 0) }
-    ensures replied { let output = between O.contents out.old out.new in
-        let errors = between E.contents err.old err.new in
-        IsReplied made output errors result }
-    ensures same_out { out.new.stream.ghost_name ≡ out.old.stream.ghost_name }
-    ensures same_err { err.new.stream.ghost_name ≡ err.old.stream.ghost_name }
-{
-    match made {
-        Ok(text) => send_text(text.as_slice(), out, err),
-        Err(why) => refuse(why, err),
     }
 }
 

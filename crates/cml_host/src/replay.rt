@@ -1,19 +1,22 @@
 //! The command `replay`: a script runs again, by a schedule that was saved.
 
-ghost use Rattle.std.specs.Prelude.{◌≡◌, ◌+◌, ◌<◌, ◌≤◌, length, IfOk, IfErr, is_some, true};
-ghost use Rattle.cml_hub.specs.Kept.{IsBudget, IsWatch, IsReplayed};
-ghost use Rattle.cml_host.specs.{Between.{between}, Closed.{plain_asked}, Plans.{IsItemTold}, Refused.{RefusesAs}, Scripts.{plain_script}};
+ghost use Rattle.std.specs.Prelude.{◌≡◌, ◌≤◌, length, IfOk, IfErr, None, is_some, true};
+ghost use Rattle.cml_hub.specs.{Courses.{run_of}, Kept.{IsBudget, IsWatch, IsReplayed}};
+ghost use Rattle.cml_host.specs.{Closed.{IsClosed, plain_asked}, Plans.{IsItemTold}, Refused.{RefusesAs}, Replies.{behind, passage, plain_of}, Scripts.{plain_script}};
 ghost use Rattle.cml_host.specs.Replaying.{HasBadItem, IsHubOf, IsNotFollowed, ReplayOutcome, ReplayTold, ScheduleOutcome, ScriptReplayed};
-ghost use Rattle.cml_host.specs.Stores.{IsUnchanged};
+ghost use Rattle.cml_host.specs.Stores.{Shelf, IsUnchanged};
+ghost use Rattle.cml_host.specs.declared.refusal.Refusal.TheVariants.{Memory};
 
-use crate::close::{Asked, Subject, ask, close, say_end};
+use crate::close::{Asked, Subject, ask};
 use crate::item::{explain_item, tell_item};
 use crate::opening::{REFUSED, open_plan};
-use crate::refusal::{Refusal, refuse};
+use crate::refusal::Refusal;
+use crate::reply::{Reply, carry_out};
+use crate::reports::send_reports;
 use crate::script::{Script, open_script};
 use crate::servers::find_servers;
 use crate::store::Store;
-use crate::tell::{cut_run, hub_is_a_run, let_go, tell};
+use crate::tell::{close_reply, hub_is_a_run, let_go};
 use cml_arguments::ReplayOptions;
 use cml_check::Prog;
 use cml_hub::{Hub, Plan, ReplayFault};
@@ -32,17 +35,17 @@ pub fn replay_file<O: Write, E: Write, S: Store>(
     store: &mut S,
 ) -> u8
     requires watch { IsWatch options.now.watch }
-    requires fresh { (out.old.calls ≡ 0) × (out.old.failed ≡ 0) × (err.old.calls ≡ 0) × (err.old.failed ≡ 0) }
-    ensures ran { let output = between O.contents out.old out.new in
-        let errors = between E.contents err.old err.new in
-        ReplayOutcome options.now explains (S.holds store.old) output errors result }
-    ensures same { IsUnchanged (S.holds store.old) (S.holds store.new) }
+    requires fresh { err.old.failed ≡ 0 }
+    ensures ran { let output = passage O.contents out.old out.new in
+        let errors = passage E.contents err.old err.new in
+        let shelf : Shelf = record { before = S.holds store.old; after = S.holds store.new } in
+        ReplayOutcome options.now explains output errors shelf result }
     ensures same_out { out.new.stream.ghost_name ≡ out.old.stream.ghost_name }
     ensures same_err { err.new.stream.ghost_name ≡ err.old.stream.ghost_name }
 {
     match open_script(alloc, options.script, explains, store) {
         Ok(script) => replay_script(alloc, script, options, explains, out, err, store),
-        Err(why) => refuse(why, err),
+        Err(why) => carry_out(alloc, "", &Err(why), out, err, store),
     }
 }
 
@@ -57,11 +60,11 @@ fn replay_script<O: Write, E: Write, S: Store>(
     store: &mut S,
 ) -> u8
     requires watch { IsWatch options.now.watch }
-    requires fresh { (out.old.calls ≡ 0) × (out.old.failed ≡ 0) × (err.old.failed ≡ 0) }
-    ensures ran { let output = between O.contents out.old out.new in
-        let errors = between E.contents err.old err.new in
-        ScriptReplayed explains (plain_script script) options.now (S.holds store.old options.now.schedule.now) output errors result }
-    ensures same { IsUnchanged (S.holds store.old) (S.holds store.new) }
+    requires fresh { err.old.failed ≡ 0 }
+    ensures ran { let output = passage O.contents out.old out.new in
+        let errors = passage E.contents err.old err.new in
+        let shelf : Shelf = record { before = S.holds store.old; after = S.holds store.new } in
+        ScriptReplayed explains (plain_script script) options.now (S.holds store.old options.now.schedule.now) output errors shelf result }
     ensures same_out { out.new.stream.ghost_name ≡ out.old.stream.ghost_name }
     ensures same_err { err.new.stream.ghost_name ≡ err.old.stream.ghost_name }
 {
@@ -79,7 +82,7 @@ fn replay_script<O: Write, E: Write, S: Store>(
         }
         Err(why) => {
             drop(script);
-            refuse(why, err)
+            carry_out(alloc, "", &Err(why), out, err, store)
         }
     }
 }
@@ -95,47 +98,60 @@ fn replay_program<O: Write, E: Write, S: Store>(
     store: &mut S,
 ) -> u8
     requires watch { IsWatch options.now.watch }
-    requires fresh { (out.old.calls ≡ 0) × (out.old.failed ≡ 0) × (err.old.failed ≡ 0) }
-    ensures ran { let output = between O.contents out.old out.new in
-        let errors = between E.contents err.old err.new in
-        ScheduleOutcome (plain_asked asked.now) program options.now.watch options.now.schedule.now (S.holds store.old options.now.schedule.now) output errors result }
-    ensures same { IsUnchanged (S.holds store.old) (S.holds store.new) }
+    requires fresh { err.old.failed ≡ 0 }
+    ensures ran { let output = passage O.contents out.old out.new in
+        let errors = passage E.contents err.old err.new in
+        let shelf : Shelf = record { before = S.holds store.old; after = S.holds store.new } in
+        ScheduleOutcome (plain_asked asked.now) program options.now.watch options.now.schedule.now (S.holds store.old options.now.schedule.now) output errors shelf result }
     ensures same_out { out.new.stream.ghost_name ≡ out.old.stream.ghost_name }
     ensures same_err { err.new.stream.ghost_name ≡ err.old.stream.ghost_name }
 {
     match replayed(alloc, program, asked, options, store) {
         Ok(hub) => {
-            let status = tell_run(alloc, &hub, asked, out, err);
+            let status = tell_run(alloc, &hub, asked, out, err, store);
             let_go(hub);
             status
         }
-        Err(why) => refuse(why, err),
+        Err(why) => carry_out(alloc, "", &Err(why), out, err, store),
     }
 }
 
-// Tells where the schedule has led, and says how the run ended, where that is asked for. What is said is made before anything is told.
-fn tell_run<O: Write, E: Write>(
+// Tells where the schedule has led: the reports, and then how the run is closed.
+fn tell_run<O: Write, E: Write, S: Store>(
     alloc: Global,
     hub: &Hub,
     asked: &Asked<'_>,
     out: &mut Counting<'_, O>,
     err: &mut Counting<'_, E>,
+    store: &mut S,
 ) -> u8
-    requires fresh { (out.old.calls ≡ 0) × (out.old.failed ≡ 0) × (err.old.failed ≡ 0) }
-    ensures told { let output = between O.contents out.old out.new in
-        let errors = between E.contents err.old err.new in
-        ReplayTold (plain_asked asked.now) hub.now output errors result }
+    requires fresh { err.old.failed ≡ 0 }
+    ensures told { let output = passage O.contents out.old out.new in
+        let errors = passage E.contents err.old err.new in
+        let shelf : Shelf = record { before = S.holds store.old; after = S.holds store.new } in
+        ReplayTold (plain_asked asked.now) hub.now output errors shelf result }
     ensures same_out { out.new.stream.ghost_name ≡ out.old.stream.ghost_name }
     ensures same_err { err.new.stream.ghost_name ≡ err.old.stream.ghost_name }
 {
     hub_is_a_run(hub);
-    let Ok(closing) = close(alloc, hub, asked) else {
-        return cut_run(hub, out, err);
-    };
-    match tell(alloc, hub, out, err) {
-        Ok(()) => say_end(&closing, err),
-        Err(status) => status,
+    match send_reports(hub.reports(), err) {
+        Ok(()) => {
+            let made = closed(alloc, hub, asked);
+            carry_out(alloc, hub.out(), &made, out, err, store)
+        }
+        Err(_) => {
+            let why = Refusal::Line("cannot write output\n", 1);
+            carry_out(alloc, "", &Err(why), out, err, store)
+        }
     }
+}
+
+// How the run is closed.
+fn closed(alloc: Global, hub: &Hub, asked: &Asked<'_>) -> Result<Reply, Refusal>
+    ensures ok { IfOk result (λ reply. IsClosed (plain_asked asked.now) None hub.now.course.program hub.now.course.items hub.now.budget (run_of hub.now.course) (behind hub.now.course.output (plain_of reply))) }
+    ensures err { IfErr result (λ why. why ≡ Memory) }
+{
+    Ok(close_reply(alloc, hub, asked, None)?)
 }
 
 // The hub that has gone through the schedule.

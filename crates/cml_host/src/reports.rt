@@ -3,7 +3,7 @@
 ghost use Rattle.std.specs.Prelude.{◌≡◌};
 ghost use Rattle.cml_host.specs.{Between.{between}, Told.{IsSentText, reports_text}};
 
-use cml_monitor::Report;
+use cml_schedule::Report;
 use cml_stream::Counting;
 use cml_stream::input_output::WriteFault;
 use std::io::Write;

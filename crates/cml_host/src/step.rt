@@ -1,10 +1,10 @@
 //! The command `step`: a run that is gone through by hand.
 
-ghost use Rattle.std.specs.Prelude.{◌≡◌, ◌≤◌, ◌∷◌, [], IfOk, IfErr, OnOk, OnErr, IsTrue, None, Some, option_map};
+ghost use Rattle.std.specs.Prelude.{◌≡◌, ◌≤◌, ◌∷◌, [], IfOk, IfErr, OnOk, OnErr, IsTrue, None, Some, map, option_map};
 ghost use Rattle.cml_check.specs.Sizes.{size_of};
-ghost use Rattle.cml_host.specs.{Between.{between}, Narrated.{Writes}, Scripts.{plain_script}};
-ghost use Rattle.cml_host.specs.Stepped.{HasTalkCause, HubStepped, IsAnsweredBy, IsNotHeld, IsAtHand, IsTurnLost, IsTurnTaken, IsUnanswered, SavedOutcome, ScriptStepped, StepOutcome, TalkIsCut, TalksOut};
-ghost use Rattle.cml_host.specs.Stores.{Shelf};
+ghost use Rattle.cml_host.specs.{Between.{between}, Narrated.{Writes}, Replies.{passage, plain_file, plain_of, plain_reply}, Scripts.{plain_script}};
+ghost use Rattle.cml_host.specs.Stepped.{HasTalkCause, HubStepped, IsAnsweredBy, IsNotHeld, IsAtHand, IsSaving, IsTurnLost, IsTurnTaken, IsUnanswered, ScriptStepped, StepOutcome, StepsSo, TalkIsCut, TalksOut};
+ghost use Rattle.cml_host.specs.Stores.{IsUnchanged, Shelf};
 ghost use Rattle.cml_host.specs.Stepped as spec;
 ghost use Rattle.cml_hub.specs.{Courses.{run_of}, Kept.{IsAtStart, NoneOut}, Runs.{stands}};
 ghost use Rattle.cml_phrase.specs.Spots.{all_places};
@@ -15,16 +15,16 @@ ghost use Rattle.cml_stream.specs.{Counts.{Calls, counted}, Streams.{Stream, str
 ghost use Rattle.cml_trace.specs.{Faults.{IsWriteFailure}, Live.{max_turns, HasTurnCause, IsFlushed}};
 
 use crate::close::{Subject, subject_of};
-use crate::output::{say, write_words};
-use crate::refusal::{Refusal, refuse};
-use crate::run::{make_record, save_record};
+use crate::output::write_words;
+use crate::refusal::Refusal;
+use crate::reply::{File, Reply, carry_out};
 use crate::script::{Script, open_script};
 use crate::store::Store;
-use crate::tell::let_go;
-use crate::trace::{fault_line, fault_status};
+use crate::tell::{let_go, schedule_file};
+use crate::trace::faulted;
 use cml_arguments::StepOptions;
 use cml_hub::Hub;
-use cml_stepper::{Reply, Stepper, push_question, push_reply};
+use cml_stepper::{Reply as Answer, Stepper, push_question, push_reply};
 use cml_stream::Counting;
 use cml_stream::input_output::WriteFault;
 use cml_trace::{MAX_TURNS, TraceFault};
@@ -45,10 +45,10 @@ pub fn step_file<I: Read, O: Write, E: Write, S: Store>(
     store: &mut S,
 ) -> u8
     requires given { (input.old.calls ≡ 0) × (input.old.failed ≡ 0) }
-    requires fresh { (out.old.calls ≡ 0) × (out.old.failed ≡ 0) × (err.old.calls ≡ 0) × (err.old.failed ≡ 0) }
+    requires fresh { (out.old.calls ≡ 0) × (out.old.failed ≡ 0) }
     ensures ran { let given = between I.remaining input.old input.new in
-        let output = between O.contents out.old out.new in
-        let errors = between E.contents err.old err.new in
+        let output = passage O.contents out.old out.new in
+        let errors = passage E.contents err.old err.new in
         let shelf : Shelf = record { before = S.holds store.old; after = S.holds store.new } in
         StepOutcome options.now given output errors shelf result }
     ensures most { input.new.calls ≤ max_turns }
@@ -56,105 +56,107 @@ pub fn step_file<I: Read, O: Write, E: Write, S: Store>(
     ensures same_out { out.new.stream.ghost_name ≡ out.old.stream.ghost_name }
     ensures same_err { err.new.stream.ghost_name ≡ err.old.stream.ghost_name }
 {
+    let made = step_there(alloc, options, input, out, store);
+    carry_out(alloc, "", &made, out, err, store)
+}
+
+// Goes through it, and returns what is left to save and to say.
+fn step_there<I: Read, O: Write, S: Store>(
+    alloc: Global,
+    options: &StepOptions<'_>,
+    input: &mut Counting<'_, I>,
+    out: &mut Counting<'_, O>,
+    store: &mut S,
+) -> Result<Reply, Refusal>
+    requires given { (input.old.calls ≡ 0) × (input.old.failed ≡ 0) }
+    requires fresh { (out.old.calls ≡ 0) × (out.old.failed ≡ 0) }
+    ensures told { let given = between I.remaining input.old input.new in
+        StepsSo options.now (S.holds store.old) given (passage O.contents out.old out.new) (plain_reply [] result) }
+    ensures same { IsUnchanged (S.holds store.old) (S.holds store.new) }
+    ensures most { input.new.calls ≤ max_turns }
+    ensures same_in { input.new.stream.ghost_name ≡ input.old.stream.ghost_name }
+    ensures same_out { out.new.stream.ghost_name ≡ out.old.stream.ghost_name }
+{
     match open_script(alloc, options.script, true, store) {
-        Ok(script) => step_script(alloc, script, options, input, out, err, store),
-        Err(why) => refuse(why, err),
+        Ok(script) => step_script(alloc, script, options, input, out),
+        Err(why) => Err(why),
     }
 }
 
-// Goes through a run of the script by hand.
-fn step_script<I: Read, O: Write, E: Write, S: Store>(
+// The same of the script.
+fn step_script<I: Read, O: Write>(
     alloc: Global,
     script: Script,
     options: &StepOptions<'_>,
     input: &mut Counting<'_, I>,
     out: &mut Counting<'_, O>,
-    err: &mut Counting<'_, E>,
-    store: &mut S,
-) -> u8
+) -> Result<Reply, Refusal>
     requires given { (input.old.calls ≡ 0) × (input.old.failed ≡ 0) }
-    requires fresh { (out.old.calls ≡ 0) × (out.old.failed ≡ 0) × (err.old.calls ≡ 0) × (err.old.failed ≡ 0) }
-    ensures ran { let given = between I.remaining input.old input.new in
-        let output = between O.contents out.old out.new in
-        let errors = between E.contents err.old err.new in
-        let shelf : Shelf = record { before = S.holds store.old; after = S.holds store.new } in
-        ScriptStepped options.now (plain_script script) given output errors shelf result }
+    requires fresh { (out.old.calls ≡ 0) × (out.old.failed ≡ 0) }
+    ensures told { let given = between I.remaining input.old input.new in
+        ScriptStepped options.now (plain_script script) given (passage O.contents out.old out.new) (plain_reply [] result) }
     ensures most { input.new.calls ≤ max_turns }
     ensures same_in { input.new.stream.ghost_name ≡ input.old.stream.ghost_name }
     ensures same_out { out.new.stream.ghost_name ≡ out.old.stream.ghost_name }
-    ensures same_err { err.new.stream.ghost_name ≡ err.old.stream.ghost_name }
 {
     let (program, subject) = subject_of(options.script, script);
     match Hub::begin(alloc, program, STEPS, None) {
         Ok(mut hub) => {
-            let record = options.record;
-            let status = step_hub(alloc, &mut hub, &subject, record, input, out, err, store);
+            let made = step_hub(alloc, &mut hub, &subject, options.record, input, out);
             let_go(hub);
-            status
+            made
         }
         Err(back) => {
             drop(back.value);
-            refuse(Refusal::Memory, err)
+            Err(Refusal::Memory)
         }
     }
 }
 
-// Goes through the run of the hub by hand, and saves its schedule, where that is asked for.
-fn step_hub<I: Read, O: Write, E: Write, S: Store>(
+// Goes through the run of the hub by hand, and returns its schedule, where it is to be saved.
+fn step_hub<I: Read, O: Write>(
     alloc: Global,
     hub: &mut Hub,
     subject: &Subject<'_>,
     save_as: Option<&str>,
     input: &mut Counting<'_, I>,
     out: &mut Counting<'_, O>,
-    err: &mut Counting<'_, E>,
-    store: &mut S,
-) -> u8
+) -> Result<Reply, Refusal>
     requires start { IsAtStart hub.old.course.program spec.stepped_budget None hub.old }
     requires given { (input.old.calls ≡ 0) × (input.old.failed ≡ 0) }
-    requires fresh { (out.old.failed ≡ 0) × (err.old.calls ≡ 0) × (err.old.failed ≡ 0) }
+    requires fresh { out.old.failed ≡ 0 }
     ensures stepped { let given = between I.remaining input.old input.new in
-        let output = between O.contents out.old out.new in
-        let errors = between E.contents err.old err.new in
-        let shelf : Shelf = record { before = S.holds store.old; after = S.holds store.new } in
-        HubStepped (all_places subject.now.text.items subject.now.forms.items) hub.old.course.program (option_map (λ name. name.now) save_as.entry) hub.old given output errors shelf result }
+        let output = passage O.contents out.old out.new in
+        let name = option_map (λ name. name.now) save_as.entry in
+        HubStepped (all_places subject.now.text.items subject.now.forms.items) hub.old.course.program name hub.old given output (plain_reply [] result) }
     ensures most { input.new.calls ≤ max_turns }
     ensures same_in { input.new.stream.ghost_name ≡ input.old.stream.ghost_name }
     ensures same_out { out.new.stream.ghost_name ≡ out.old.stream.ghost_name }
-    ensures same_err { err.new.stream.ghost_name ≡ err.old.stream.ghost_name }
 {
     match hold(alloc, hub, subject, input, out) {
-        Ok(()) => save(alloc, hub, save_as, err, store),
-        Err(why) => {
-            say(err, fault_line(why).as_bytes());
-            fault_status(why)
-        }
+        Ok(()) => saved(alloc, hub, save_as),
+        Err(why) => Err(faulted(why)),
     }
 }
 
-// Saves the schedule of the hub, where that is asked for.
-fn save<E: Write, S: Store>(
-    alloc: Global,
-    hub: &Hub,
-    save_as: Option<&str>,
-    err: &mut Counting<'_, E>,
-    store: &mut S,
-) -> u8
-    requires fresh { (err.old.calls ≡ 0) × (err.old.failed ≡ 0) }
-    ensures saved { let errors = between E.contents err.old err.new in
-        let shelf : Shelf = record { before = S.holds store.old; after = S.holds store.new } in
-        SavedOutcome (option_map (λ name. name.now) save_as.entry) (schedule_text hub.now.budget (size_of hub.now.course.program) hub.now.course.items) errors shelf result }
-    ensures same_err { err.new.stream.ghost_name ≡ err.old.stream.ghost_name }
+// The schedule of the hub, where it is to be saved.
+fn saved(alloc: Global, hub: &Hub, save_as: Option<&str>) -> Result<Reply, Refusal>
+    ensures { let schedule = schedule_text hub.now.budget (size_of hub.now.course.program) hub.now.course.items in
+        IsSaving (option_map (λ name. name.now) save_as.entry) schedule (plain_reply [] result) }
 {
-    let Some(name) = save_as else {
-        return 0;
-    };
-    let Ok(made) = make_record(alloc, hub, name) else {
-        return refuse(Refusal::Memory, err);
-    };
-    match save_record(alloc, name, true, &made, err, store) {
-        Ok(()) => 0,
-        Err(status) => status,
+    let files = schedule_file(alloc, hub, true, save_as)?;
+    Ok(saving(alloc, files))
+}
+
+// A reply by which these files are saved, and nothing is said.
+fn saving(alloc: Global, files: Vec<File>) -> Reply
+    ensures { plain_of result ≡ spec.saves (map plain_file files.items) }
+{
+    Reply {
+        output: Vec::new(alloc),
+        files,
+        words: Vec::new(alloc),
+        status: 0,
     }
 }
 
@@ -358,7 +360,7 @@ fn reply<O: Write>(
 }
 
 // The words of an answer.
-fn words_of(alloc: Global, subject: &Subject<'_>, answer: Reply) -> Result<Vec<u8>, AllocError> {
+fn words_of(alloc: Global, subject: &Subject<'_>, answer: Answer) -> Result<Vec<u8>, AllocError> {
     let mut text = Vec::new(alloc);
     push_reply(
         alloc,

@@ -1,100 +1,110 @@
-//! What is told of a run: its reports to the errors, its output and the end line to the output.
+//! What is told of a run behind its reports: how it is closed, or why it was stopped.
 
-ghost use Rattle.std.specs.{Prelude.{◌≡◌, ◌⊎◌, ◌++◌, [], IfOk, IfErr, OnOk, OnErr}, String.{string_bytes}};
+ghost use Rattle.std.specs.{Prelude.{◌≡◌, ◌∷◌, [], IfOk, map, option_map}, String.{string_bytes}};
+ghost use Rattle.cml_check.specs.Sizes.{size_of};
 ghost use Rattle.cml_hub.specs.Courses.{run_of};
-ghost use Rattle.cml_host.specs.{Between.{between}, Running.{StopOutcome, failed_by}};
-ghost use Rattle.cml_host.specs.Told.{IsCutOff, IsRunOf, IsTold, IsNotTold, OutputNotTold, SaysStill, MemoryBroke, OutputBroke, whole_output};
-ghost use Rattle.cml_host.specs.Written.{cannot_write};
+ghost use Rattle.cml_host.specs.Closed.{IsClosed, plain_asked};
+ghost use Rattle.cml_host.specs.Replies.{IsCarriedOut, behind, passage, plain_file, plain_of, plain_refusal};
+ghost use Rattle.cml_host.specs.{Running.{stop_reply}, Stores.{Shelf}, Told.{IsRunOf}};
+ghost use Rattle.cml_host.specs.Closed as closed;
 ghost use Rattle.cml_host.specs.Told as spec;
-ghost use Rattle.cml_stream.specs.Streams.{stream, Says, Takes, TakesStart};
+ghost use Rattle.cml_schedule.specs.Written.{schedule_text};
 
-use crate::output::say;
-use crate::reports::send_reports;
+use crate::close::{Asked, close, is_explained};
+use crate::refusal::Refusal;
+use crate::reply::{File, Reply, carry_out, new_file};
+use crate::store::Store;
 use crate::workers::{Cause, Stopped};
 use cml_hub::{End, Hub};
 use cml_stream::Counting;
-use cml_stream::input_output::{WriteFault, write_out};
 use std::alloc::{AllocError, Global};
 use std::io::Write;
 
-/// Tells all of a run that has come to its end: its reports to the errors, then its output and the end line to the output.
+/// How the run of this hub is closed, which is over: the end line behind its output; its schedule, where it is asked for under a name; and what
+/// is said of its end, where that is asked for.
 ///
 /// # Errors
-/// The status, where not all was told, and the errors tell why: a write failed, after which nothing is written; or memory ran out, where
-/// the reports that were made and the output are written, and no end line.
-pub fn tell<O: Write, E: Write>(
+/// Out of memory.
+pub fn close_reply(
     alloc: Global,
     hub: &Hub,
-    out: &mut Counting<'_, O>,
-    err: &mut Counting<'_, E>,
-) -> Result<(), u8>
-    requires fresh { (out.old.calls ≡ 0) × (out.old.failed ≡ 0) × (err.old.failed ≡ 0) }
-    ensures told { let output = between O.contents out.old out.new in
-        let errors = between E.contents err.old err.new in
-        OnOk result (IsTold hub.now.reports (whole_output hub.now.budget (run_of hub.now.course)) output errors) }
-    ensures not_told { let output = between O.contents out.old out.new in
-        let errors = between E.contents err.old err.new in
-        IfErr result (IsNotTold hub.now.reports hub.now.course.output (whole_output hub.now.budget (run_of hub.now.course)) output errors) }
-    ensures same_out { out.new.stream.ghost_name ≡ out.old.stream.ghost_name }
-    ensures same_err { err.new.stream.ghost_name ≡ err.old.stream.ghost_name }
+    asked: &Asked<'_>,
+    save_as: Option<&str>,
+) -> Result<Reply, AllocError>
+    ensures { IfOk result (λ reply. IsClosed (plain_asked asked.now) (option_map (λ name. name.now) save_as.entry) hub.now.course.program hub.now.course.items hub.now.budget (run_of hub.now.course) (behind hub.now.course.output (plain_of reply))) }
 {
-    match send_reports(hub.reports(), err) {
-        Ok(()) => tell_output(alloc, hub, out, err),
-        Err(_) => Err(refuse_reports(err)),
+    let files = schedule_file(alloc, hub, is_explained(asked), save_as)?;
+    let closing = close(alloc, hub, asked)?;
+    let end = end_line(alloc, hub.end(), hub.pending())?;
+    Ok(Reply {
+        output: end.into_bytes(),
+        files,
+        words: closing.words,
+        status: closing.status,
+    })
+}
+
+/// The schedule of the hub as a file, where it is asked for under a name.
+///
+/// # Errors
+/// Out of memory.
+pub fn schedule_file(
+    alloc: Global,
+    hub: &Hub,
+    explains: bool,
+    save_as: Option<&str>,
+) -> Result<Vec<File>, AllocError>
+    ensures { IfOk result (λ files. map plain_file files.items ≡ closed.schedule_file explains (option_map (λ name. name.now) save_as.entry) (schedule_text hub.now.budget (size_of hub.now.course.program) hub.now.course.items)) }
+{
+    match save_as {
+        Some(name) => {
+            let schedule = hub.write_schedule(alloc)?;
+            one_file(alloc, new_file(alloc, explains, name, schedule)?)
+        }
+        None => Ok(Vec::new(alloc)),
     }
 }
 
-/// Tells the output and the end line of a run that has come to its end, whose reports are told.
+/// This file, and no other one.
 ///
 /// # Errors
-/// The status, where not all was told, and the errors tell why: a write failed, after which nothing is written; or memory ran out, where
-/// the output is written, and no end line.
-pub fn tell_output<O: Write, E: Write>(
-    alloc: Global,
-    hub: &Hub,
-    out: &mut Counting<'_, O>,
-    err: &mut Counting<'_, E>,
-) -> Result<(), u8>
-    requires fresh { (out.old.failed ≡ 0) × (err.old.failed ≡ 0) }
-    ensures told { let output = between O.contents out.old out.new in
-        let errors = between E.contents err.old err.new in
-        OnOk result (IsTold [] (whole_output hub.now.budget (run_of hub.now.course)) output errors) }
-    ensures not_told { let output = between O.contents out.old out.new in
-        let errors = between E.contents err.old err.new in
-        IfErr result (OutputNotTold [] hub.now.course.output (whole_output hub.now.budget (run_of hub.now.course)) output errors) }
-    ensures same_out { out.new.stream.ghost_name ≡ out.old.stream.ghost_name }
-    ensures same_err { err.new.stream.ghost_name ≡ err.old.stream.ghost_name }
+/// Out of memory.
+pub fn one_file(alloc: Global, file: File) -> Result<Vec<File>, AllocError>
+    ensures { IfOk result (λ files. files.items ≡ file ∷ []) }
 {
-    let Ok(line) = end_line(alloc, hub.end(), hub.pending()) else {
-        return Err(cut_output(hub.out(), out, err));
-    };
-    match send_both(out, hub.out(), line.as_str()) {
-        Ok(()) => Ok(()),
-        Err(_) => Err(refuse_output(err)),
-    }
+    let mut files = Vec::new(alloc);
+    files.push(file)?;
+    Ok(files)
 }
 
-/// Tells why a run has not come to its end, after what is written of its reports: that memory ran out, where its output so far is
+/// Tells why a run has not come to its end, behind what is written of its reports: that memory ran out, where its output so far is
 /// written; that a write of the reports failed; or that the reports are not its own. It returns the status.
-pub fn stop<O: Write, E: Write>(
+pub fn stop<O: Write, E: Write, S: Store>(
+    alloc: Global,
     stopped: &Stopped,
     out: &mut Counting<'_, O>,
     err: &mut Counting<'_, E>,
+    store: &mut S,
 ) -> u8
-    requires fresh { (out.old.calls ≡ 0) × (out.old.failed ≡ 0) × (err.old.failed ≡ failed_by stopped.now.cause) }
-    ensures told { let output = between O.contents out.old out.new in
-        let errors = between E.contents err.old err.new in
-        StopOutcome stopped.now.hub stopped.now.cause output errors result }
+    ensures told { let output = passage O.contents out.old out.new in
+        let errors = passage E.contents err.old err.new in
+        let shelf : Shelf = record { before = S.holds store.old; after = S.holds store.new } in
+        IsCarriedOut (stop_reply stopped.now.hub stopped.now.cause) output errors shelf result }
     ensures same_out { out.new.stream.ghost_name ≡ out.old.stream.ghost_name }
     ensures same_err { err.new.stream.ghost_name ≡ err.old.stream.ghost_name }
 {
+    let (so_far, why) = stopped_for(stopped);
+    carry_out(alloc, so_far, &Err(why), out, err, store)
+}
+
+// What is told of a run that was stopped, behind what is told of its output.
+fn stopped_for<'a>(stopped: &'a Stopped) -> (&'a str, Refusal)
+    ensures { plain_refusal result.0.now result.1 ≡ stop_reply stopped.now.hub stopped.now.cause }
+{
     match stopped.cause {
-        Cause::Memory => cut_output(stopped.hub.out(), out, err),
-        Cause::Write => refuse_reports(err),
-        Cause::Foreign => {
-            say(err, b"foreign hub\n");
-            1
-        }
+        Cause::Memory => (stopped.hub.out(), Refusal::Memory),
+        Cause::Write => ("", Refusal::Line("cannot write output\n", 1)),
+        Cause::Foreign => ("", Refusal::Line("foreign hub\n", 1)),
     }
 }
 
@@ -128,86 +138,4 @@ fn end_name(end: End) -> &'static str
         End::Budget => "budget",
         End::Partial => "partial",
     }
-}
-
-// Says that a write failed, after a failed write to the errors.
-fn refuse_reports<E: Write>(err: &mut Counting<'_, E>) -> u8
-    requires failed { err.old.failed ≡ 1 }
-    ensures said { let errors = between E.contents err.old err.new in
-        SaysStill errors [] cannot_write }
-    ensures status { result ≡ 1 }
-    ensures same_err { err.new.stream.ghost_name ≡ err.old.stream.ghost_name }
-{
-    let _ = write_out(err, b"cannot write output\n");
-    1
-}
-
-// Says that a write to the output failed.
-fn refuse_output<E: Write>(err: &mut Counting<'_, E>) -> u8
-    requires fresh { err.old.failed ≡ 0 }
-    ensures said { let errors = between E.contents err.old err.new in
-        Says errors cannot_write }
-    ensures status { result ≡ 1 }
-    ensures same_err { err.new.stream.ghost_name ≡ err.old.stream.ghost_name }
-{
-    say(err, b"cannot write output\n");
-    1
-}
-
-/// Writes the reports and the output of a run, and says that memory ran out.
-pub fn cut_run<O: Write, E: Write>(
-    hub: &Hub,
-    out: &mut Counting<'_, O>,
-    err: &mut Counting<'_, E>,
-) -> u8
-    requires fresh { (out.old.calls ≡ 0) × (out.old.failed ≡ 0) × (err.old.failed ≡ 0) }
-    ensures told { let output = between O.contents out.old out.new in
-        let errors = between E.contents err.old err.new in
-        IsCutOff hub.now.reports hub.now.course.output output errors result }
-    ensures same_out { out.new.stream.ghost_name ≡ out.old.stream.ghost_name }
-    ensures same_err { err.new.stream.ghost_name ≡ err.old.stream.ghost_name }
-{
-    match send_reports(hub.reports(), err) {
-        Ok(()) => cut_output(hub.out(), out, err),
-        Err(_) => refuse_reports(err),
-    }
-}
-
-/// Writes the output, and says that memory ran out.
-pub fn cut_output<O: Write, E: Write>(
-    text: &str,
-    out: &mut Counting<'_, O>,
-    err: &mut Counting<'_, E>,
-) -> u8
-    requires fresh { (out.old.failed ≡ 0) × (err.old.failed ≡ 0) }
-    ensures told { let output = between O.contents out.old out.new in
-        let errors = between E.contents err.old err.new in
-        MemoryBroke [] text.now output errors result ⊎ OutputBroke [] text.now output errors result }
-    ensures same_out { out.new.stream.ghost_name ≡ out.old.stream.ghost_name }
-    ensures same_err { err.new.stream.ghost_name ≡ err.old.stream.ghost_name }
-{
-    match write_out(out, text.as_bytes()) {
-        Ok(()) => {
-            say(err, b"memory\n");
-            5
-        }
-        Err(_) => refuse_output(err),
-    }
-}
-
-// Writes a text and then another.
-fn send_both<O: Write>(
-    out: &mut Counting<'_, O>,
-    first: &str,
-    second: &str,
-) -> Result<(), WriteFault>
-    requires fresh { out.old.failed ≡ 0 }
-    ensures ok { let output = stream (O.contents out.old.stream.now) (O.contents out.new.stream.now) in
-        OnOk result (Takes output (first.now ++ second.now) × (out.new.failed ≡ 0)) }
-    ensures err { let output = stream (O.contents out.old.stream.now) (O.contents out.new.stream.now) in
-        OnErr result (TakesStart output (first.now ++ second.now) × (out.new.failed ≡ 1)) }
-    ensures same_out { out.new.stream.ghost_name ≡ out.old.stream.ghost_name }
-{
-    write_out(out, first.as_bytes())?;
-    write_out(out, second.as_bytes())
 }

@@ -10,7 +10,7 @@ use Rattle.cml_scan.specs.declared.meet.Meet.{Meet}
 use Rattle.cml_book.specs.Walks.{runs}
 use Rattle.cml_schedule.specs.declared.item.Item.{Item}
 use Rattle.cml_schedule.specs.declared.item.Item.TheVariants.{Clock}
-use Rattle.cml_hub.specs.declared.marks.Mark.{Mark}
+use Rattle.cml_hub.specs.declared.ready_queue.Mark.{Mark}
 use Rattle.cml_hub.specs.ReadyQueue.{is_here}
 use Rattle.cml_hub.specs.Runs.{any_runs, is_empty, has_number, is_none, next_alarm, is_allowed, terminal}
 use Rattle.cml_hub.specs.Courses.{Adds}

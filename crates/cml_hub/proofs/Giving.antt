@@ -6,11 +6,11 @@ use Rattle.std.proofs.lemmas.List.{append-nil}
 use Rattle.cml_value.specs.declared.number.Tid.{Tid}
 use Rattle.cml_scan.specs.World.{PlainThread, running, pending_on, ended}
 use Rattle.cml_book.specs.Walks.{runs, is_running}
-use Rattle.cml_monitor.specs.Reports.{PlainReport}
+use Rattle.cml_schedule.specs.Reports.{PlainReport}
 use Rattle.cml_schedule.specs.declared.item.Item.TheVariants.{Turn}
 use Rattle.cml_step.specs.Calls.{text_of}
 use Rattle.cml_hub.specs.declared.done.AfterTurn.{AfterTurn}
-use Rattle.cml_hub.specs.declared.marks.Mark.{Mark}
+use Rattle.cml_hub.specs.declared.ready_queue.Mark.{Mark}
 use Rattle.cml_hub.specs.ReadyQueue.{is_out}
 use Rattle.cml_step.specs.Terms.{Program}
 use Rattle.cml_hub.specs.Runs.{Run, stands, advance, turned}

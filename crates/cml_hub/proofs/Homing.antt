@@ -3,8 +3,8 @@ use Rattle.std.proofs.Common.{◌≡◌, ◌⊎◌, inl, inr, ℕ, zero, suc, �
 use Rattle.std.proofs.lemmas.List.{length-map}
 use Rattle.std.specs.Prelude.{slice_get, slice_set}
 use Rattle.cml_value.specs.declared.number.Tid.{Tid}
-use Rattle.cml_hub.specs.declared.marks.Mark.{Mark}
-use Rattle.cml_hub.specs.declared.marks.Mark.TheVariants.{Ready, Out, NotRunning}
+use Rattle.cml_hub.specs.declared.ready_queue.Mark.{Mark}
+use Rattle.cml_hub.specs.declared.ready_queue.Mark.TheVariants.{Ready, Out, NotRunning}
 use Rattle.cml_hub.specs.ReadyQueue.{home, is_out, is_at, count_of, ready_at, count_outs, those_out, AreMarks}
 use Rattle.cml_hub.proofs.MarkLemmas.{count_append, ready_set, outs_set}
 use Rattle.cml_hub.proofs.Queueing.{those_out_more, those_same}

@@ -7,7 +7,7 @@ use Rattle.cml_scan.specs.declared.meet.Meet.{Meet}
 use Rattle.cml_schedule.specs.declared.item.Item.{Item}
 use Rattle.cml_schedule.specs.declared.item.Item.TheVariants.{Turn, Clock}
 use Rattle.cml_hub.specs.declared.done.AfterTurn.{AfterTurn}
-use Rattle.cml_hub.specs.declared.marks.Mark.{Mark}
+use Rattle.cml_hub.specs.declared.ready_queue.Mark.{Mark}
 use Rattle.cml_hub.specs.ReadyQueue.{is_out}
 use Rattle.cml_hub.specs.Courses.{PlainCourse, Turns, Meets, Ticks}
 use Rattle.cml_hub.specs.Kept.{Kept, Stands, NoneDue}

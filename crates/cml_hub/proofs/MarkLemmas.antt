@@ -6,8 +6,8 @@ use Rattle.std.specs.Prelude.{slice_get, slice_set, Option, OnSome, IsSome}
 use Rattle.std.specs.List.{list_any, remove}
 use Rattle.std.proofs.lemmas.Bool.Decides.{nat_tests}
 use Rattle.cml_value.specs.declared.number.Tid.{Tid}
-use Rattle.cml_hub.specs.declared.marks.Mark.{Mark}
-use Rattle.cml_hub.specs.declared.marks.Mark.TheVariants.{Ready, Out, NotRunning}
+use Rattle.cml_hub.specs.declared.ready_queue.Mark.{Mark}
+use Rattle.cml_hub.specs.declared.ready_queue.Mark.TheVariants.{Ready, Out, NotRunning}
 use Rattle.cml_hub.specs.ReadyQueue.{is_here, is_at, count_of, readies, outs, ready_at, count_outs, AreMarks}
 
 pub at_same : (t : ℕ) → is_at t t ≡ 1

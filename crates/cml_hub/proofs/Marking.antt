@@ -10,8 +10,8 @@ use Rattle.cml_scan.specs.declared.meet.Meet.TheVariants.{Single, Pair}
 use Rattle.cml_book.specs.Walks.{runs}
 use Rattle.cml_hub.specs.declared.done.AfterTurn.{AfterTurn}
 use Rattle.cml_hub.specs.declared.done.AfterTurn.TheVariants as gone_of
-use Rattle.cml_hub.specs.declared.marks.Mark.{Mark}
-use Rattle.cml_hub.specs.declared.marks.Mark.TheVariants.{Ready, Out, NotRunning}
+use Rattle.cml_hub.specs.declared.ready_queue.Mark.{Mark}
+use Rattle.cml_hub.specs.declared.ready_queue.Mark.TheVariants.{Ready, Out, NotRunning}
 use Rattle.cml_hub.specs.ReadyQueue.{is_here, is_out}
 use Rattle.cml_hub.specs.Dones.{ThreadsAfter}
 use Rattle.cml_hub.specs.Courses.{PartiesWait, parties_run}

@@ -8,14 +8,14 @@ use Rattle.cml_book.specs.Walks.{runs}
 use Rattle.cml_scan.specs.Scan.{scan, has_row}
 use Rattle.cml_scan.specs.declared.meet.Meet.{Meet}
 use Rattle.cml_book.specs.Swaps.{swaps}
-use Rattle.cml_monitor.specs.Reports.{PlainReport}
+use Rattle.cml_schedule.specs.Reports.{PlainReport}
 use Rattle.cml_schedule.specs.declared.item.Item.{Item}
 use Rattle.cml_schedule.specs.declared.item.Item.TheVariants.{Turn, Meet as Commit, Exchange, Clock}
 use Rattle.cml_step.specs.Calls.{text_of}
 use Rattle.cml_step.specs.Machines.{PlainMachine}
 use Rattle.cml_check.specs.Syntax.{PlainItem}
-use Rattle.cml_hub.specs.declared.marks.Mark.{Mark}
-use Rattle.cml_hub.specs.declared.marks.Mark.TheVariants.{Ready, Out}
+use Rattle.cml_hub.specs.declared.ready_queue.Mark.{Mark}
+use Rattle.cml_hub.specs.declared.ready_queue.Mark.TheVariants.{Ready, Out}
 use Rattle.cml_value.specs.declared.number.Tid.{Tid}
 use Rattle.cml_hub.specs.ReadyQueue.{is_out, left_by}
 use Rattle.cml_hub.specs.Runs.{any_runs, is_empty, is_none, next_alarm, terminal, is_allowed}

@@ -4,8 +4,8 @@ use Rattle.std.specs.Prelude.{slice_get, Option, OnSome, IsSome}
 use Rattle.std.specs.List.{remove}
 use Rattle.std.proofs.lemmas.Bool.Decides.{nat_tests}
 use Rattle.cml_value.specs.declared.number.Tid.{Tid}
-use Rattle.cml_hub.specs.declared.marks.Mark.{Mark}
-use Rattle.cml_hub.specs.declared.marks.Mark.TheVariants.{Ready, Out, NotRunning}
+use Rattle.cml_hub.specs.declared.ready_queue.Mark.{Mark}
+use Rattle.cml_hub.specs.declared.ready_queue.Mark.TheVariants.{Ready, Out, NotRunning}
 use Rattle.cml_hub.specs.ReadyQueue.{is_out, is_at, count_of, left_by, those_out}
 use Rattle.cml_hub.proofs.MarkLemmas.{at_same, some_then}
 

@@ -4,11 +4,11 @@ use Rattle.std.specs.Prelude.{slice_get, Option, option_map, IsTrue, ◌↔◌}
 use Rattle.std.proofs.lemmas.List.{take-append-le, take_all}
 use Rattle.std.proofs.Math.Nat.{mul-le-mul_left}
 use Rattle.cml_value.specs.declared.number.Tid.{Tid}
-use Rattle.cml_monitor.specs.Reports.{PlainReport}
+use Rattle.cml_schedule.specs.Reports.{PlainReport}
 use Rattle.cml_schedule.specs.declared.item.Item.{Item}
 use Rattle.cml_step.specs.Terms.{Program}
 use Rattle.cml_step.specs.Calls.{text_of}
-use Rattle.cml_hub.specs.declared.marks.Mark.{Mark}
+use Rattle.cml_hub.specs.declared.ready_queue.Mark.{Mark}
 use Rattle.cml_hub.specs.ReadyQueue.{is_out}
 use Rattle.cml_hub.specs.Runs.{Run, stands}
 use Rattle.cml_hub.specs.Courses.{PlainCourse, run_of, Adds}

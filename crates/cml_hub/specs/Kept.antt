@@ -9,7 +9,7 @@ use Rattle.cml_check.specs.Sizes.{size_of}
 use Rattle.cml_check.specs.declared.size.Size.{Size}
 use Rattle.cml_book.specs.Walks.{runs}
 use Rattle.cml_book.specs.Swaps.{swaps}
-use Rattle.cml_monitor.specs.Reports.{PlainReport}
+use Rattle.cml_schedule.specs.Reports.{PlainReport}
 use Rattle.cml_schedule.specs.declared.item.Item.{Item}
 use Rattle.cml_schedule.specs.declared.item.Item.TheVariants as item
 use Rattle.cml_step.specs.Calls.{text_of}
@@ -21,7 +21,7 @@ use Rattle.cml_hub.specs.declared.fault.GiveFault.{GiveFault}
 use Rattle.cml_hub.specs.declared.fault.GiveFault.TheVariants.{Stranger, Memory}
 use Rattle.cml_hub.specs.declared.fault.ReplayFault.{ReplayFault}
 use Rattle.cml_hub.specs.declared.fault.ReplayFault.TheVariants as replay_fault
-use Rattle.cml_hub.specs.declared.marks.Mark.{Mark}
+use Rattle.cml_hub.specs.declared.ready_queue.Mark.{Mark}
 use Rattle.cml_hub.specs.ReadyQueue.{is_here}
 use Rattle.cml_hub.specs.Runs.{Run, any_runs, over, ending, stands, advance}
 use Rattle.cml_hub.specs.Dones.{GoesOn}

@@ -1,8 +1,8 @@
 -- A code of hubs: a tree of numbers from which they can be read back. The toolchain asks for it; no rule uses it.
 use Rattle.std.specs.Prelude.{ℕ, Bool, List, Option, refl}
 use Rattle.std.specs.Coded.{Coded, code_by, coded×, coded_list, coded_option, coded_bool, coded_ℕ}
-use Rattle.cml_monitor.specs.Reports.{PlainReport}
-use Rattle.cml_monitor.specs.Codes.{report_code}
+use Rattle.cml_schedule.specs.Reports.{PlainReport}
+use Rattle.cml_schedule.specs.ReportCodes.{report_code}
 use Rattle.cml_hub.specs.Courses.{PlainCourse}
 use Rattle.cml_hub.specs.CourseCodes.{course_code}
 use Rattle.cml_value.specs.declared.number.Tid.{Tid}

@@ -3,14 +3,14 @@ use Rattle.std.specs.Prelude.{ℕ, ◌≡◌, ◌≢◌, ◌<◌, Bool, true, fa
 use Rattle.cml_scan.specs.Scan.{scan}
 use Rattle.cml_scan.specs.declared.meet.Meet.{Meet}
 use Rattle.cml_scan.specs.declared.meet.Meet.TheVariants.{Single, Pair}
-use Rattle.cml_monitor.specs.Reports.{PlainReport}
+use Rattle.cml_schedule.specs.Reports.{PlainReport}
 use Rattle.cml_schedule.specs.declared.item.Item.{Item}
 use Rattle.cml_step.specs.Machines.{PlainMachine}
 use Rattle.cml_value.specs.declared.number.Tid.{Tid}
 use Rattle.cml_hub.specs.declared.done.AfterTurn.{AfterTurn}
 use Rattle.cml_hub.specs.declared.done.AfterTurn.TheVariants as gone_of
-use Rattle.cml_hub.specs.declared.marks.Mark.{Mark}
-use Rattle.cml_hub.specs.declared.marks.Mark.TheVariants as mark
+use Rattle.cml_hub.specs.declared.ready_queue.Mark.{Mark}
+use Rattle.cml_hub.specs.declared.ready_queue.Mark.TheVariants as mark
 use Rattle.cml_hub.specs.ReadyQueue.{left_by, those_out}
 use Rattle.cml_hub.specs.Runs.{any_runs, terminal}
 use Rattle.cml_hub.specs.Dones.{GoesOn}

@@ -1,8 +1,8 @@
 -- Where each thread of a hub is, and the queue of those that are ready.
 use Rattle.std.specs.Prelude.{ℕ, zero, suc, ◌≡◌, ◌+◌, ◌^◌, ◌≤◌, ◌==◌, Bool, true, false, if◌then◌else◌, List, [], ◌∷◌, length}
 use Rattle.cml_value.specs.declared.number.Tid.{Tid}
-use Rattle.cml_hub.specs.declared.marks.Mark.{Mark}
-use Rattle.cml_hub.specs.declared.marks.Mark.TheVariants as mark
+use Rattle.cml_hub.specs.declared.ready_queue.Mark.{Mark}
+use Rattle.cml_hub.specs.declared.ready_queue.Mark.TheVariants as mark
 
 -- for each thread where it is; the threads that are ready, the one that comes next first; for how many more there is room in the queue; and for
 -- how many more threads there is room

@@ -2,7 +2,7 @@
 use Rattle.std.specs.Prelude.{ℕ, ◌≡◌, ◌+◌, ◌*◌, ◌<◌, ◌≤◌, List, [], length, map, take, Option, Some, None, option_map, slice_get}
 use Rattle.cml_scan.specs.World.{PlainWorld, pending}
 use Rattle.cml_scan.specs.Scan.{scan}
-use Rattle.cml_monitor.specs.Reports.{PlainReport}
+use Rattle.cml_schedule.specs.Reports.{PlainReport}
 use Rattle.cml_schedule.specs.declared.item.Item.{Item}
 use Rattle.cml_step.specs.Terms.{Program}
 use Rattle.cml_hub.specs.Runs.{stands}

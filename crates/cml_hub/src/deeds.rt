@@ -9,10 +9,17 @@ use cml_step::Ask;
 use cml_value::FnRef;
 
 // The function with which each thread began, by its number, and how many threads ended at a fault.
-#[derive(Drop)]
 pub(crate) struct Deeds {
     pub(crate) origins: Vec<FnRef>,
     pub(crate) faults: usize,
+}
+
+// Written out, so that how the parts are dropped is proved once, and whoever drops one calls this.
+impl Drop for Deeds {
+    fn drop(self) {
+        let Deeds { origins, faults: _ } = self;
+        drop(origins);
+    }
 }
 
 // Notes what a turn did: the function of a thread that begins comes after the others, and a fault is counted. It takes no memory.

@@ -19,13 +19,30 @@ use cml_value::Tid;
 use std::alloc::{AllocError, Global};
 
 // The schedule so far, the machine of each thread, the output, how much of the budget was used, and what the turns did.
-#[derive(Drop)]
 pub(crate) struct Trail {
     pub(crate) items: Vec<Item>,
     pub(crate) machines: Vec<Machine>,
     pub(crate) output: String,
     pub(crate) used: u128,
     pub(crate) deeds: Deeds,
+}
+
+// Written out, so that how the parts are dropped is proved once, and whoever drops one calls this.
+impl Drop for Trail {
+    fn drop(self) {
+        let Trail {
+            items,
+            machines,
+            output,
+            used,
+            deeds,
+        } = self;
+        drop(items);
+        drop(machines);
+        drop(output);
+        drop(used);
+        drop(deeds);
+    }
 }
 
 // Appends a line to the output, where there is room for it.

@@ -247,7 +247,8 @@ once_each order places c p few = IsDistinct-from_apart (λ n m. nat_eq n m) (tak
         let i_in : i < c = omega (arith, lt, j_in) in
         let a : get_or places (get_or order i 0) 0 ≡ i = (p.back i (omega (arith, i_in, few))).1 in
         let b : get_or places (get_or order j 0) 0 ≡ j = (p.back j (omega (arith, j_in, few))).1 in
-        rw (is i d i_in, is j d j_in) (other_number (get_or order i 0) (get_or order j 0) (λ e. let f : get_or places (get_or order i 0) 0 ≡ get_or places (get_or order j 0) 0 = ap (λ k. get_or places k 0) e in
+        rw (is i d i_in, is j d j_in) (other_number (get_or order i 0) (get_or order j 0) (λ e.
+        let f : get_or places (get_or order i 0) 0 ≡ get_or places (get_or order j 0) 0 = ap (λ k. get_or places k 0) e in
         omega (arith, a, b, f, lt)))
 
 pub moved_is : (order new : List ℕ) (x p c : ℕ) → new ≡ set (set order x (get_or order c 0)) c (get_or order x 0) → x ≡ p → new ≡ set (set order p (get_or order c 0)) c (get_or order p 0)

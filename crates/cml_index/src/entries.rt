@@ -31,10 +31,17 @@ impl Seat {
 }
 
 // The pending threads, ascending, each in its seat. Seats of threads that have gone are kept while they are not too many.
-#[derive(Drop)]
 pub(crate) struct Entries {
     seats: Vec<Seat>,
     pending: usize,
+}
+
+// Written out, so that how the parts are dropped is proved once, and whoever drops one calls this.
+impl Drop for Entries {
+    fn drop(self) {
+        let Entries { seats, pending: _ } = self;
+        drop(seats);
+    }
 }
 
 impl Model for Entries {

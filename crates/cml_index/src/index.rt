@@ -20,9 +20,16 @@ use std::marker::Model;
 
 /// A table of communications that keeps no list of rows. It keeps two lanes of offers for each channel, one for each swap channel, one for
 /// each light (the leaves that wait for it), and the pending groups. How long a change takes does not depend on how many rows there are.
-#[derive(Drop)]
 pub struct OfferIndex {
     core: IndexState,
+}
+
+// Written out, so that how the parts are dropped is proved once, and whoever drops one calls this.
+impl Drop for OfferIndex {
+    fn drop(self) {
+        let OfferIndex { core } = self;
+        drop(core);
+    }
 }
 
 impl Model for OfferIndex {

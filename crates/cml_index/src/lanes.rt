@@ -21,7 +21,6 @@ use std::alloc::{AllocError, Global};
 
 // The lanes: for each kind of object a list of them by the number of the object, two lists where two threads meet over it; and those of
 // the ticks, of which there is no end, in a map. All sides of a swap channel are alike, so nobody stands in its second list.
-#[derive(Drop)]
 pub(crate) struct Lanes {
     pub(crate) senders: Vec<LaneState>,
     pub(crate) receivers: Vec<LaneState>,
@@ -34,6 +33,36 @@ pub(crate) struct Lanes {
     pub(crate) joins: Vec<LaneState>,
     pub(crate) nacks: Vec<LaneState>,
     pub(crate) ticks: Ticks,
+}
+
+// Written out, so that how the parts are dropped is proved once, and whoever drops one calls this.
+impl Drop for Lanes {
+    fn drop(self) {
+        let Lanes {
+            senders,
+            receivers,
+            swappers,
+            swapped,
+            ivars,
+            mvars,
+            mailboxes,
+            ports,
+            joins,
+            nacks,
+            ticks,
+        } = self;
+        drop(senders);
+        drop(receivers);
+        drop(swappers);
+        drop(swapped);
+        drop(ivars);
+        drop(mvars);
+        drop(mailboxes);
+        drop(ports);
+        drop(joins);
+        drop(nacks);
+        drop(ticks);
+    }
 }
 
 impl Lanes {

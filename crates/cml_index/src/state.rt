@@ -23,7 +23,6 @@ use std::alloc::{AllocError, Global};
 
 // The pending threads, ascending; the lanes of their offers; the objects over which two threads may meet; what was told of lights;
 // and how many leaves there are, and how many of them can be taken alone.
-#[derive(Drop)]
 pub(crate) struct IndexState {
     pub(crate) entries: Entries,
     pub(crate) lanes: Lanes,
@@ -35,6 +34,27 @@ pub(crate) struct IndexState {
     pub(crate) crossing: usize,
     // lists of threads that have gone, which serve the next that come
     pub(crate) spares: Vec<Spare>,
+}
+
+// Written out, so that how the parts are dropped is proved once, and whoever drops one calls this.
+impl Drop for IndexState {
+    fn drop(self) {
+        let IndexState {
+            entries,
+            lanes,
+            live,
+            flags,
+            leaves: _,
+            lit: _,
+            crossing: _,
+            spares,
+        } = self;
+        drop(entries);
+        drop(lanes);
+        drop(live);
+        drop(flags);
+        drop(spares);
+    }
 }
 
 // Of how many threads that have gone the lists are kept.

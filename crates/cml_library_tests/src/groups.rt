@@ -1,190 +1,126 @@
-//! What groups laid flat return.
+//! A group laid flat, why groups are refused, and what the forcing of an event asks for.
 
 use crate::choosing::chosen;
-use crate::making::{MEMORY, group, many};
-use cml_group::{Flat, FlatFault, flatten, has_few_leaves};
-use cml_value::{Base, BaseKind, FnRef, Group, GroupKind, NackId};
+use crate::making::{MEMORY, either, leaf, many};
+use cml_group::{Flat, FlatFault, Forcing, Next, flatten};
+use cml_value::{Base, BaseKind, ChanId, Event, EventKind, FnRef, Group, GroupKind, NackId};
 use std::process::Abort;
 
-// A group with the nacks of its scopes, and with a line for each leaf: the channel that it receives on, the functions that run, and
-// the nacks that fire, where it is chosen.
-const GROUPS: [(&str, &str, &str); 8] = [
-    // the branch of nack 0 has both leaves, that of nack 1 the second alone
-    (
-        "(scope 0 (choose (recv 0) (scope 1 (recv 1))))",
-        " 0 1",
-        "recv 0 runs fires 1\nrecv 1 runs fires\n",
-    ),
-    // a scope without leaves
-    (
-        "(choose (scope 0 never) (always 3))",
-        " 0",
-        "other runs fires 0\n",
-    ),
-    ("(scope 0 (always 1))", " 0", "other runs fires\n"),
-    // under two wraps the inner function runs first
-    (
-        "(wrap (wrap (always 4) 7 1) 8)",
-        "",
-        "other runs 7(1) 8 fires\n",
-    ),
-    ("(choose (scope 0 never) (scope 0 never))", " 0 0", ""),
-    ("never", "", ""),
-    // a wrap stands over all members of its choice, and over none beside it
-    (
-        "(choose (wrap (choose (recv 0) never (recv 1)) 1) (recv 2))",
-        "",
-        "recv 0 runs 1 fires\nrecv 1 runs 1 fires\nrecv 2 runs fires\n",
-    ),
-    // beside a leaf stand a branch without leaves, and a branch with a branch in it
-    (
-        "(choose (always ()) (scope 3 never) (scope 5 (wrap (choose (recv 0) (scope 4 (recv 1))) 1)))",
-        " 3 5 4",
-        "other runs fires 3 5 4\nrecv 0 runs 1 fires 3 4\nrecv 1 runs 1 fires 3\n",
-    ),
-];
-
-// A member, how many of it there are, and how many choices stand round them, one in another; and how many leaves that has, or why it is
-// refused.
-const LIMITS: [(&str, u32, u32, &str); 5] = [
-    ("(recv 0)", 256, 1, "256"),
-    ("(recv 0)", 257, 1, "the group has more than 256 leaves"),
-    ("never", 1, 63, "0"),
-    (
-        "never",
-        1,
-        64,
-        "the group nests too deep or has too many nodes",
-    ),
-    ("(recv 0)", 257, 65, "the group has more than 256 leaves"),
-];
-
-fn push_nacks(rt: &impl Abort, text: &mut String, nacks: &[NackId]) {
-    for nack in nacks {
-        write!(text, " {}", nack.0).expect(rt, MEMORY);
-    }
+fn receive_on(channel: u32) -> Group {
+    leaf(BaseKind::Recv(ChanId(channel)))
 }
 
-fn push_function(rt: &impl Abort, text: &mut String, function: &FnRef) {
-    write!(text, " {}", function.func()).expect(rt, MEMORY);
-    if !function.args().is_empty() {
-        write!(text, "({})", function.args().len()).expect(rt, MEMORY);
-    }
-}
-
-// The line of a leaf.
-fn push_line(rt: &impl Abort, text: &mut String, base: &Base, wraps: &[FnRef], fired: &[NackId]) {
-    if let BaseKind::Recv(channel) = base.kind() {
-        write!(text, "recv {} runs", channel.0).expect(rt, MEMORY);
-    } else {
-        text.push_str("other runs").expect(rt, MEMORY);
-    }
-    for function in wraps {
-        push_function(rt, text, function);
-    }
-    text.push_str(" fires").expect(rt, MEMORY);
-    push_nacks(rt, text, fired);
-    text.push_str("\n").expect(rt, MEMORY);
-}
-
-// The lines of all leaves, as they lie there.
-fn push_leaves(rt: &(impl Abort + AllocGlobal), text: &mut String, flat: &Flat) {
-    for n in 0..flat.len() {
-        let fired = flat.lost(rt.alloc(), n).expect(rt, MEMORY);
-        push_line(rt, text, flat.leaf(n), flat.wraps(n), &fired);
-        drop(fired);
-    }
-}
-
-fn laid(rt: &(impl Abort + AllocGlobal), group: &Group) -> Flat {
-    let copy = group.copy().expect(rt, MEMORY);
-    flatten(rt.alloc(), copy).expect(rt, "within the limits")
-}
-
-// The same, by choosing each.
-fn push_chosen(rt: &(impl Abort + AllocGlobal), text: &mut String, group: &Group, leaves: usize) {
-    for n in 0..leaves {
-        let flat = laid(rt, group);
-        let leaf = chosen(flat, n).expect(rt, "a leaf");
-        push_line(rt, text, &leaf.base, &leaf.wraps, &leaf.lost);
-        drop(leaf);
-    }
-}
-
-// Each nack is asked for by itself.
-fn fires_so(rt: &(impl Abort + AllocGlobal), flat: &Flat) {
-    let scopes = flat.scopes();
-    for n in 0..flat.len() {
-        let mut fired = Vec::new(rt.alloc());
-        for scope in 0..scopes.len() {
-            if flat.loses(n, scope) {
-                fired.push(scopes[scope]).expect(rt, MEMORY);
-            }
-        }
-        let all = flat.lost(rt.alloc(), n).expect(rt, MEMORY);
-        assert!(rt; fired.as_slice() == all.as_slice());
-        drop(fired);
-        drop(all);
-    }
-}
-
-fn is_told(rt: &(impl Abort + AllocGlobal), group: &Group, scopes: &str, leaves: &str) {
-    let flat = laid(rt, group);
-    assert!(rt; flat.group().same(group));
-    let mut text = String::new(rt.alloc());
-    push_nacks(rt, &mut text, flat.scopes());
-    assert!(rt; text.as_str() == scopes);
-    text.clear();
-    push_leaves(rt, &mut text, &flat);
-    assert!(rt; text.as_str() == leaves);
-    text.clear();
-    push_chosen(rt, &mut text, group, flat.len());
-    assert!(rt; text.as_str() == leaves);
-    drop(text);
-    fires_so(rt, &flat);
-    drop(flat);
+// The branch of nack 0 has both leaves, that of nack 1 the second alone.
+fn branches(rt: &(impl Abort + AllocGlobal)) -> Flat {
+    let inner = receive_on(1).scope(rt.alloc(), NackId(1));
+    let choice = either(rt, receive_on(0), inner.expect(rt, MEMORY));
+    let group = choice.scope(rt.alloc(), NackId(0)).expect(rt, MEMORY);
+    flatten(rt.alloc(), group).expect(rt, "within the limits")
 }
 
 #[test]
-fn groups_by_hand(rt: HostRuntime) {
-    for &(text, scopes, leaves) in &GROUPS {
-        let group = group(&rt, text);
-        is_told(&rt, &group, scopes, leaves);
-        drop(group);
-    }
+fn nacks_fire_whose_branch_is_lost(rt: HostRuntime) {
+    let flat = branches(&rt);
+    assert!(rt; flat.scopes() == [NackId(0), NackId(1)].as_slice());
+    assert!(rt; flat.len() == 2);
+    let fired = flat.lost(rt.alloc(), 0).expect(&rt, MEMORY);
+    assert!(rt; fired.as_slice() == [NackId(1)].as_slice());
+    drop(fired);
+    let second = chosen(flat, 1).expect(&rt, "a leaf");
+    assert!(rt; second.lost.is_empty() && second.wraps.is_empty());
+    assert!(rt; matches!(second.base.kind(), BaseKind::Recv(ChanId(1))));
+    drop(second);
 }
 
-fn refused(rt: &(impl Abort + AllocGlobal), fault: FlatFault, expected: &str) {
+fn refused(rt: &(impl Abort + AllocGlobal), fault: FlatFault, words: &str) {
     let text = format!(in rt.alloc(); "{fault}").expect(rt, MEMORY);
     drop(fault);
-    assert!(rt; text.as_str() == expected);
+    assert!(rt; text.as_str() == words);
     drop(text);
 }
 
-fn answers(rt: &(impl Abort + AllocGlobal), group: Group, expected: &str) {
+fn is_refused(rt: &(impl Abort + AllocGlobal), group: Group, words: &str) {
     match flatten(rt.alloc(), group) {
         Ok(flat) => {
-            let text = format!(in rt.alloc(); "{}", flat.len()).expect(rt, MEMORY);
             drop(flat);
-            assert!(rt; text.as_str() == expected);
-            drop(text);
+            assert!(rt; false);
         }
-        Err(fault) => refused(rt, fault, expected),
+        Err(fault) => refused(rt, fault, words),
     }
 }
 
 #[test]
-fn limits(rt: HostRuntime) {
-    for &(member, members, choices, expected) in &LIMITS {
-        let mut made = many(&rt, members, member);
-        for _ in 0..choices {
-            made.around(&rt, "(choose it)");
-        }
-        let group = made.group(&rt);
-        drop(made);
-        assert!(rt; has_few_leaves(&group) == (members <= 256));
-        answers(&rt, group, expected);
+fn refusals_in_words(rt: HostRuntime) {
+    let receives = many(&rt, 257, BaseKind::Recv(ChanId(0)));
+    is_refused(&rt, receives, "the group has more than 256 leaves");
+    let mut group = Group::new(GroupKind::Never);
+    for _ in 0..64 {
+        group = group.scope(rt.alloc(), NackId(0)).expect(&rt, MEMORY);
     }
+    is_refused(&rt, group, "the group nests too deep or has too many nodes");
     let fault = FlatFault::Memory(Group::new(GroupKind::Never));
     refused(&rt, fault, "out of memory");
+}
+
+// The function of this number, which has captured nothing.
+fn bare(rt: &(impl Abort + AllocGlobal), func: u32) -> FnRef {
+    FnRef::new(rt.alloc(), func, Vec::new(rt.alloc())).expect(rt, MEMORY)
+}
+
+fn receive(channel: u32) -> Event {
+    Event::new(EventKind::Leaf(Base::new(BaseKind::Recv(ChanId(channel)))))
+}
+
+// The function that is called has this number and so many values, and returns a receive on the channel of its number.
+fn returns(rt: &(impl Abort + AllocGlobal), forcing: &mut Forcing, func: u32, values: usize) {
+    match forcing.next().expect(rt, MEMORY) {
+        Next::Call(function) => {
+            assert!(rt; function.func() == func && function.args().len() == values);
+            drop(function);
+            let answered = forcing.answer_event(rt.alloc(), receive(func));
+            assert!(rt; answered.is_ok());
+            drop(answered);
+        }
+        Next::NeedNack | Next::Ready => rt.panic("no call"),
+    }
+}
+
+// The function asks for its nack, which is number 0.
+fn asks_for_a_nack(rt: &(impl Abort + AllocGlobal), forcing: &mut Forcing) {
+    match forcing.next().expect(rt, MEMORY) {
+        Next::NeedNack => {
+            let function = forcing.answer_nack(rt.alloc(), NackId(0));
+            drop(function.expect(rt, MEMORY));
+        }
+        Next::Call(_) | Next::Ready => rt.panic("no nack"),
+    }
+}
+
+fn finished(rt: &impl Abort, forcing: Forcing) -> Group {
+    match forcing.next().expect(rt, MEMORY) {
+        Next::Ready => forcing.finish(),
+        Next::Call(_) | Next::NeedNack => rt.panic("not ready"),
+    }
+}
+
+// From the left; what a withNack returns stands in the scope of its nack.
+#[test]
+fn a_choice_is_forced(rt: HostRuntime) {
+    let guard = Event::new(EventKind::Guard(bare(&rt, 7)));
+    let with_nack = Event::new(EventKind::WithNack(bare(&rt, 9)));
+    let members = Vec::from_array(rt.alloc(), [guard, with_nack]).expect(&rt, MEMORY);
+    let event = Event::choose(rt.alloc(), members).expect(&rt, MEMORY);
+    let mut forcing = Forcing::start(rt.alloc(), event).expect(&rt, MEMORY);
+    returns(&rt, &mut forcing, 7, 0);
+    asks_for_a_nack(&rt, &mut forcing);
+    returns(&rt, &mut forcing, 9, 1);
+    let copy = forcing.copy(rt.alloc()).expect(&rt, MEMORY);
+    assert!(rt; copy.same(&forcing));
+    drop(copy);
+    let made = finished(&rt, forcing);
+    let branch = receive_on(9).scope(rt.alloc(), NackId(0));
+    let wanted = either(&rt, receive_on(7), branch.expect(&rt, MEMORY));
+    assert!(rt; made.same(&wanted));
+    drop(made);
+    drop(wanted);
 }

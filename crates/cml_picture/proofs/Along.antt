@@ -86,7 +86,8 @@ halts_at a done b item rest end TooMany leads h = absurd h
 halts_at a done b item rest end Memory leads h = tt
 
 -- of those that are shown
-pub stops_at : (places : List (List Place)) (a : PlainCourse) (s : PlainStack) (done : List Item) (b : PlainCourse) (t : PlainStack) (item : Item) (rest : List Item) (end : PlainCourse) (why : DrawFault) →
+pub stops_at : (places : List (List Place)) (a : PlainCourse) (s : PlainStack) (done : List Item) (b : PlainCourse) (t : PlainStack) (item : Item) (rest : List Item) (end : PlainCourse)
+    (why : DrawFault) →
     Shows places a s done b t → Stops places b t item end why → StopsOf places a s (done ++ item ∷ rest) end why
 stops_at places a s done b t item rest end (BadItem number) shows h = unfit_at a done b item rest number end (shows_leads places a s done b t shows) h
 stops_at places a s done b t item rest end TooMany shows h = record {

@@ -49,6 +49,13 @@ impl Port {
         self.queue.first()
     }
 
+    /// Unread message `n`, the first being 0, if there are so many.
+    pub fn item(&self, n: usize) -> Option<&Value>
+        ensures { option_copied result ≡ slice_get self.now.items n }
+    {
+        self.queue.item(n)
+    }
+
     /// Whether it takes no more messages.
     pub fn is_full(&self) -> bool
         ensures { result ≡ is_at_limit self.now.items }

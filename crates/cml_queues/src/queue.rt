@@ -54,6 +54,13 @@ impl Queue {
         self.items.front()
     }
 
+    // Item `n`, the first being 0, if there are so many.
+    pub(crate) fn item(&self, n: usize) -> Option<&Value>
+        ensures { option_copied result ≡ slice_get self.now.items n }
+    {
+        self.items.get(n)
+    }
+
     // Whether there is an item.
     pub(crate) fn is_filled(&self) -> bool
         ensures { result ≡ is_filled self.now.items }

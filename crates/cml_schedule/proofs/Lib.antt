@@ -2,3 +2,5 @@ mod Readings
 mod Letters
 mod Phrases
 mod WrittenLemmas
+mod Threads
+mod Rows

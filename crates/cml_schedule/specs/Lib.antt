@@ -5,3 +5,5 @@ pub mod Words
 pub mod Lines
 pub mod Reading
 pub mod Laws
+pub mod Reports
+pub mod ReportCodes

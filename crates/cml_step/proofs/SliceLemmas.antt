@@ -118,7 +118,8 @@ unfolding sliced_from
 slice_later p self zero n m t = refl
 slice_later p self (suc left) n m t =
     ap (λ k. carried (λ u. sliced_from p self left k u) k (next p self t).ask (next p self t).term) (moved n m)
-    ∙ carried_later (λ u. sliced_from p self left (m + 1) u) (λ u. sliced_from p self left (n + (m + 1)) u) n (m + 1) (next p self t).ask (next p self t).term (λ u. slice_later p self left n (m + 1) u)
+    ∙ carried_later (λ u. sliced_from p self left (m + 1) u) (λ u. sliced_from p self left (n + (m + 1)) u) n (m + 1) (next p self t).ask (next p self t).term
+    (λ u. slice_later p self left n (m + 1) u)
   where
     moved : (a b : ℕ) → a + b + 1 ≡ a + (b + 1)
     moved a b = omega arith

@@ -42,10 +42,17 @@ impl Model for Frame {
 }
 
 /// Entries that copies share: a copy is one more owner of the first, whatever stands below it.
-#[derive(Drop)]
 pub(crate) struct Frames {
     first: Option<Arc<Frame>>,
     count: usize,
+}
+
+// Written out, so that how the parts are dropped is proved once, and whoever drops one calls this.
+impl Drop for Frames {
+    fn drop(self) {
+        let Frames { first, count: _ } = self;
+        drop(first);
+    }
 }
 
 impl Model for Frames {
@@ -208,11 +215,20 @@ impl Frames {
 
 /// The entries of a stack that takes steps. What is on top lies in the stack itself: a call, and over it what it waits for, if there is
 /// such an entry. No other call stands over it. Where both places are empty nothing is on the stack, and no call lies below an empty place.
-#[derive(Drop)]
 pub(crate) struct Stack {
     pub(crate) over: Option<Entry>,
     pub(crate) call: Option<Call>,
     pub(crate) below: Frames,
+}
+
+// Written out, so that how the parts are dropped is proved once, and whoever drops one calls this.
+impl Drop for Stack {
+    fn drop(self) {
+        let Stack { over, call, below } = self;
+        drop(over);
+        drop(call);
+        drop(below);
+    }
 }
 
 impl Model for Stack {

@@ -26,10 +26,17 @@ use std::marker::Model;
 use std::mem::swap;
 
 /// A thread of a script: its number and its stack. The stack has a meaning only together with a checked program.
-#[derive(Drop)]
 pub struct Machine {
     thread: Tid,
     stack: Stack,
+}
+
+// Written out, so that how the parts are dropped is proved once, and whoever drops one calls this.
+impl Drop for Machine {
+    fn drop(self) {
+        let Machine { thread: _, stack } = self;
+        drop(stack);
+    }
 }
 
 impl Model for Machine {

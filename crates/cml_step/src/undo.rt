@@ -8,11 +8,23 @@ use std::mem::swap;
 
 /// What undoes a slice: a copy of the machine as it was, where one was made; else what the slice changed in the call on top. Its lists are
 /// used again.
-#[derive(Drop)]
 pub struct Undo {
     pub(crate) journal: Journal,
     pub(crate) spare: Machine,
     pub(crate) filled: bool,
+}
+
+// Written out, so that how the parts are dropped is proved once, and whoever drops one calls this.
+impl Drop for Undo {
+    fn drop(self) {
+        let Undo {
+            journal,
+            spare,
+            filled: _,
+        } = self;
+        drop(journal);
+        drop(spare);
+    }
 }
 
 impl Undo {

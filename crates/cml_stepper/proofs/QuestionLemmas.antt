@@ -34,11 +34,14 @@ partial_by : (b o : Bool) → Partial ≡ cond b Quiet (cond o Budget Partial) �
 partial_by true o e = cc
 partial_by false o e = refl
 
-pub ended_next : (places : List (List Place)) (h : Kept) (told : Ending) → Quiet ≡ ending h.budget (run_of h.course) → IsEnding places h told → ComesNext (terminal h.course.world) places h (next.Ended told)
+pub ended_next : (places : List (List Place)) (h : Kept) (told : Ending) → Quiet ≡ ending h.budget (run_of h.course) → IsEnding places h told → ComesNext (terminal h.course.world) places h
+    (next.Ended told)
 ended_next places h told is ended = subst (λ b. ComesNext b places h (next.Ended told)) (sym (quiet_by (terminal h.course.world) _ is)) ended
 
-pub budget_next : (places : List (List Place)) (h : Kept) (told : Offers) → Budget ≡ ending h.budget (run_of h.course) → AreOffers places h.course told → ComesNext (terminal h.course.world) places h (next.Offers told)
+pub budget_next : (places : List (List Place)) (h : Kept) (told : Offers) → Budget ≡ ending h.budget (run_of h.course) → AreOffers places h.course told → ComesNext (terminal h.course.world) places h
+    (next.Offers told)
 budget_next places h told is offers = subst (λ b. ComesNext b places h (next.Offers told)) (sym (budget_by (terminal h.course.world) _ is)) offers
 
-pub partial_next : (places : List (List Place)) (h : Kept) (told : Offers) → Partial ≡ ending h.budget (run_of h.course) → AreOffers places h.course told → ComesNext (terminal h.course.world) places h (next.Offers told)
+pub partial_next : (places : List (List Place)) (h : Kept) (told : Offers) → Partial ≡ ending h.budget (run_of h.course) → AreOffers places h.course told → ComesNext (terminal h.course.world) places h
+    (next.Offers told)
 partial_next places h told is offers = subst (λ b. ComesNext b places h (next.Offers told)) (sym (partial_by (terminal h.course.world) _ is)) offers

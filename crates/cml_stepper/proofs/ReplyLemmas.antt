@@ -185,10 +185,12 @@ typed_allowed w items typed.Unknown item e = absurd cc
 pub keeps_so : (IsSo : Stay → Type 0) (h : Kept) (s : Stay) (r : Reply) → r ≡ reply.Stays s (length h.course.items + 1) → IsSo s → StaysAs IsSo h h r
 keeps_so IsSo h s r is so = subst (StaysAs IsSo h h) (sym is) (refl, so, refl)
 
-pub moves_some : (places : List (List Place)) (what : Typed) (old new : Kept) (r : Reply) (item : Item) (o : Option Item) → Some item ≡ o → IsGone places old item new r → TakesNamed places what o old new r
+pub moves_some : (places : List (List Place)) (what : Typed) (old new : Kept) (r : Reply) (item : Item)
+    (o : Option Item) → Some item ≡ o → IsGone places old item new r → TakesNamed places what o old new r
 moves_some places what old new r item o is goes = subst (λ x. TakesNamed places what x old new r) is goes
 
-pub moves_none : (places : List (List Place)) (what : Typed) (h : Kept) (s : Stay) (r : Reply) (o : Option Item) → None ≡ o → s ≡ unfit h.course.world what → r ≡ reply.Stays s (length h.course.items + 1)
+pub moves_none : (places : List (List Place)) (what : Typed) (h : Kept) (s : Stay) (r : Reply) (o : Option Item) → None ≡ o → s ≡ unfit h.course.world what → r ≡ reply.Stays s
+    (length h.course.items + 1)
     → TakesNamed places what o h h r
 moves_none places what h s r o is fits stays = subst (λ x. TakesNamed places what x h h r) is (keeps_so (λ s. s ≡ unfit h.course.world what) h s r stays fits)
 
@@ -204,7 +206,8 @@ undoes_some (item ∷ items) places old new r some undoes = undoes
 abbrev MovesSo : List (List Place) → Typed → Kept → Kept → Reply → Type 0
 MovesSo places what old new r = TakesNamed places what (item_typed old.course.world old.course.items what) old new r
 
-pub does_as : (places : List (List Place)) (what same : Typed) (old new : Kept) (r : Reply) → what ≡ same → (MovesSo places same old new r → DoneAt places same old new r) → MovesSo places what old new r
+pub does_as : (places : List (List Place)) (what same : Typed) (old new : Kept) (r : Reply) → what ≡ same →
+    (MovesSo places same old new r → DoneAt places same old new r) → MovesSo places what old new r
     → DoneAt places what old new r
 does_as places what same old new r is step moves = subst (λ x. DoneAt places x old new r) (sym is) (step (subst (λ x. MovesSo places x old new r) is moves))
 

@@ -6,6 +6,7 @@ ghost use Rattle.cml_narrative.specs.Deeds.{HasHappened};
 ghost use Rattle.cml_scan.specs.Scan.{scan};
 ghost use Rattle.cml_stepper.specs.Steppers.{places_known, FollowsTo};
 ghost use Rattle.cml_stepper.specs.Replies.{AnswersLine, DoneAt, IsGone, IsListed, Lists, Undoes, UndoesLast, TakesNamed};
+ghost use Rattle.cml_stepper.specs.Questions.{IsQuestion};
 ghost use Rattle.cml_stepper.specs.Replies as spec;
 ghost use Rattle.cml_stepper.specs.Picks as picks;
 
@@ -203,13 +204,37 @@ impl Stepper<'_> {
     {
         let before = printed_len(hub);
         let happened = self.tell(alloc, hub, item)?;
+        match self.ask_behind(alloc, hub, before) {
+            Ok((printed, question)) => Ok(Reply::Gone {
+                happened,
+                printed,
+                question,
+            }),
+            Err(error) => {
+                drop(happened);
+                Err(error)
+            }
+        }
+    }
+
+    // What was added to the output behind so many bytes, and what is asked now.
+    fn ask_behind(
+        &self,
+        alloc: Global,
+        hub: &Hub,
+        before: usize,
+    ) -> Result<(Vec<u8>, Question), AllocError>
+        ensures printed { IfOk result (λ made. made.0.items ≡ drop before hub.now.course.output) }
+        ensures question { IfOk result (λ made. IsQuestion (places_known self.now) hub.now made.1) }
+    {
         let printed = printed_behind(alloc, hub, before)?;
-        let question = self.ask(alloc, hub)?;
-        Ok(Reply::Gone {
-            happened,
-            printed,
-            question,
-        })
+        match self.ask(alloc, hub) {
+            Ok(question) => Ok((printed, question)),
+            Err(error) => {
+                drop(printed);
+                Err(error)
+            }
+        }
     }
 
     // The item happens that the answer names, if it names one.

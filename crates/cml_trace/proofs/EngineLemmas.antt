@@ -3,7 +3,6 @@ use Rattle.std.proofs.Common.{◌≡◌, ℕ, ◌+◌, ◌<◌, ◌≤◌, Resul
 use Rattle.std.proofs.Common.{◌∷◌, ◌++◌, Option, length, take, drop, refl, ap, sym, ◌∙◌, subst, inl, inr}
 use Rattle.std.proofs.Common.{append_assoc, append-nil, length-append, arith}
 use Rattle.std.proofs.lemmas.List.{take-append-drop}
-use Rattle.std.specs.Result.{IsErrAnd}
 use Rattle.std.specs.Io.KnownBytes.{Appends, Keeps}
 use Rattle.std.proofs.KnownBytes.{Appends-trans, Appends-kept}
 use Rattle.cml_scan.specs.World.{PlainWorld}
@@ -224,17 +223,6 @@ finish_err all w v waits held mid holds end (Ok e) answered begun sent = tt
 finish_err all w v waits held mid holds (Ok e) (Err fault) answered begun sent = written_partly all w v waits held mid holds e answered sent
 finish_err all w v waits held mid holds (Err first) (Err fault) answered begun sent = written_begun all w waits held mid holds begun sent
 
--- what was counted at the end was counted at the result
-pub finish_count : (n m : ℕ) (end result : Result TraceEnd TraceFault) → IfOk end (λ e. e ≡ Done → n ≡ m) → IfOk result (λ e. end ≡ Ok e) → IfOk result (λ e. e ≡ Done → n ≡ m)
-finish_count n m end (Ok e) counted same = subst (λ (r : Result TraceEnd TraceFault). IfOk r (λ x. x ≡ Done → n ≡ m)) same counted
-finish_count n m end (Err fault) counted same = tt
-
--- some world comes of it
-pub some_world : (r : Result TraceEnd TraceFault) (all : TraceLines) (w v : PlainWorld) (output : Stream) → IfOk r (AreWritten all w v output) →
-    IfOk r (λ end. (u : PlainWorld) × AreWritten all w u output end)
-some_world (Ok end) all w v output a = (v, a)
-some_world (Err fault) all w v output a = tt
-
 -- what was written, all of it
 pub all_written : (output : Stream) (text : List ℕ) → Takes output text → TakesStart output text
 all_written output text written = (text, [], sym (append-nil text), written)
@@ -254,14 +242,22 @@ abbrev pub lines_of : List ℕ → TraceLines
 lines_of trace = record { number = 1; left = trace_lines trace }
 
 -- the answer to the lines is the answer to the trace
-pub answered_trace : (input output : Stream) (trace : List ℕ) (v : PlainWorld) (end : TraceEnd) → Came input trace → length trace ≤ max_input →
-    AreWritten (lines_of trace) empty_world v output end → IsAnswered input output end
-answered_trace input output trace v end came short a = record { trace = trace; text = a.text; came = came; answered = inl (short, a.answered); written = a.written }
+pub trace_answered : (r : Result TraceEnd TraceFault) (input output : Stream) (trace : List ℕ) (v : PlainWorld) → length trace ≤ max_input →
+    IfOk r (AreWritten (lines_of trace) empty_world v output) → Came input trace → IfOk r (IsAnswered input output)
+trace_answered (Ok end) input output trace v short a came =
+    record { trace = trace; text = a.text; came = came; answered = inl (short, a.answered); written = a.written }
+trace_answered (Err fault) input output trace v short a came = tt
 
-pub begun_trace : (input output : Stream) (trace : List ℕ) → Came input trace → length trace ≤ max_input → AreWrittenTo (lines_of trace) empty_world output →
-    IsBegun input output
-begun_trace input output trace came short a =
+pub trace_begun : (r : Result TraceEnd TraceFault) (input output : Stream) (trace : List ℕ) → length trace ≤ max_input →
+    OnErr r (AreWrittenTo (lines_of trace) empty_world output) → Came input trace → OnErr r (IsBegun input output)
+trace_begun (Ok end) input output trace short a came = tt
+trace_begun (Err fault) input output trace short a came =
     record { trace = trace; text = a.text; end = a.end; came = came; answered = inl (short, a.answered); written = a.written }
+
+-- the whole answer was written, and so a prefix of it
+pub begun_answered : (input output : Stream) (end : TraceEnd) → IsAnswered input output end → IsBegun input output
+begun_answered input output end a =
+    record { trace = a.trace; text = a.text; end = end; came = a.came; answered = a.answered; written = all_written output a.text a.written }
 
 -- a prefix of what a trace that is too long is answered was written
 pub begun_long : (input output : Stream) (trace : List ℕ) (k : ℕ) → Came input trace → max_input < length trace →
@@ -283,12 +279,6 @@ broken (Err Read) input output failed is begun = absurd is
 broken (Err Turns) input output failed is begun = absurd is
 broken (Err Write) input output failed is begun = begun
 broken (Err Memory) input output failed is begun = inr begun
-
--- a write failed
-pub broken_write : (r : Result TraceEnd TraceFault) (input output : Stream) → IsErrAnd r (λ fault. fault ≡ Write) → IsBegun input output →
-    IfErr r (IsBroken input output)
-broken_write (Ok a) input output is begun = tt
-broken_write (Err fault) input output is begun = subst (λ (f : TraceFault). IsBroken input output f) (sym is) begun
 
 -- what more commands are answered comes after what the first are
 pub record GoesOn (all first : List ℕ) : Type 0 where

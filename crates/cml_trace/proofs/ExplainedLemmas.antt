@@ -1,8 +1,6 @@
 -- Lines that are explained, one after another.
-use Rattle.std.proofs.Common.{◌≡◌, ℕ, ◌+◌, ◌<◌, Result, Ok, Err, Some, None, OnOk, IfErr, List, [], ◌∷◌, ◌++◌, length, codes, refl, ap, sym, ◌∙◌, subst, inl, inr, append_assoc, append-nil}
-use Rattle.std.specs.Result.{IsErrAnd}
+use Rattle.std.proofs.Common.{◌≡◌, ℕ, ◌+◌, Result, Ok, Err, Some, None, OnOk, List, [], ◌∷◌, ◌++◌, refl, ap, sym, ◌∙◌, subst, inl, inr, append_assoc, append-nil}
 use Rattle.cml_scan.specs.World.{PlainWorld}
-use Rattle.cml_stream.specs.Streams.{Stream, Takes}
 use Rattle.cml_book.specs.declared.command.Command.{Command}
 use Rattle.cml_book.specs.declared.command.Command.TheVariants as command
 use Rattle.cml_book.specs.declared.command.Reply.{Reply}
@@ -24,23 +22,16 @@ use Rattle.cml_book.specs.End.{end}
 use Rattle.cml_book.specs.Clock.{clock}
 use Rattle.cml_book.specs.Step.{step, answered}
 use Rattle.cml_trace.specs.Whys.{why_of}
-use Rattle.cml_trace.specs.declared.fault.TraceEnd.{TraceEnd}
-use Rattle.cml_trace.specs.declared.fault.TraceEnd.TheVariants.{TooLong}
-use Rattle.cml_trace.specs.declared.fault.TraceFault.{TraceFault}
-use Rattle.cml_trace.specs.declared.fault.TraceFault.TheVariants.{Memory}
 use Rattle.cml_trace.specs.declared.order.Request.{Request}
 use Rattle.cml_trace.specs.declared.order.Request.TheVariants as order
 use Rattle.cml_trace.specs.Orders.{AsksFor, IsBad}
-use Rattle.cml_trace.specs.Replies.{line}
-use Rattle.cml_trace.specs.Answers.{after_order, max_input}
+use Rattle.cml_trace.specs.Answers.{after_order}
 use Rattle.cml_trace.specs.Bads.{IsBadFor}
 use Rattle.cml_trace.specs.Lines.{TraceLines}
-use Rattle.cml_trace.specs.Runs.{Came, IsAnswered, IsBegun, IsBroken}
 use Rattle.cml_trace.specs.declared.why.Bad.{Bad}
 use Rattle.cml_trace.specs.declared.why.Cause.TheVariants as cause
 use Rattle.cml_trace.specs.declared.why.Told.{Told}
 use Rattle.cml_trace.specs.Explained.{refusal_in, line_told, told_of_refusal, told_of, Explains}
-use Rattle.cml_trace.proofs.EngineLemmas.{all_written}
 
 -- a refusal changes nothing
 answered_keeps : {R : Type 0} (f : R → Reply) (w : PlainWorld) (o : Outcome R) (why : Refusal) → ((r : R) → refusal_in (f r) ≡ None) →
@@ -127,23 +118,3 @@ told_refused r n w v c reply why old new does is said =
     let same : v ≡ w = sym (ap (λ (p : PlainWorld × Reply). p.0) does) ∙ refused_keeps w c why at in
     appends_same r old new (line_told n (cause.Refused (why_of v c why))) (told_of n w (order.Do c))
     (ap (λ u. line_told n (cause.Refused (why_of u c why))) same ∙ ap (told_of_refusal n w c) (sym at)) said
-
--- the whole answer was written, and so a prefix of it
-pub begun_answered : (input output : Stream) (end : TraceEnd) → IsAnswered input output end → IsBegun input output
-begun_answered input output end a =
-    record { trace = a.trace; text = a.text; end = end; came = a.came; answered = a.answered; written = all_written output a.text a.written }
-
-pub begun_long_whole : (input output : Stream) (trace : List ℕ) → Came input trace → max_input < length trace → Takes output (line (codes "too long")) → IsBegun input output
-begun_long_whole input output trace came long written = record {
-  trace = trace;
-  text = line (codes "too long");
-  end = TooLong;
-  came = came;
-  answered = inr (long, refl, refl);
-  written = all_written output (line (codes "too long")) written;
-}
-
--- memory ran out after the answer
-pub broken_memory : (r : Result TraceEnd TraceFault) (input output : Stream) → IsErrAnd r (λ fault. fault ≡ Memory) → IsBegun input output → IfErr r (IsBroken input output)
-broken_memory (Ok a) input output is begun = tt
-broken_memory (Err fault) input output is begun = subst (λ (f : TraceFault). IsBroken input output f) (sym is) (inr begun)

@@ -1,12 +1,12 @@
 //! The engine that answers a trace.
 
 ghost use Rattle.std.specs.{Prelude.{◌≡◌, ◌≤◌, ◌+◌, [], length, Ok, IfOk, IfErr, OnErr, OnOk}, List.{flat_map}};
-ghost use Rattle.cml_scan.specs.{Scan.{scan}, World.{PlainWorld}};
-ghost use Rattle.cml_book.specs.Step.{replies_of, world_after, empty_world};
-ghost use Rattle.cml_trace.specs.{Answers.{trace_lines, max_input}, Faults.{HasCause, IsWriteFailure}, Lines.{TraceLines}};
+ghost use Rattle.cml_scan.specs.Scan.{scan};
+ghost use Rattle.cml_book.specs.Step.{replies_of, world_after};
+ghost use Rattle.cml_trace.specs.{Answers.{max_input}, Faults.{HasCause, IsWriteFailure}};
 ghost use Rattle.cml_trace.specs.{Pages.{Tells, TellsStart}, Replies.{reply_text, rows_text}};
-ghost use Rattle.cml_trace.specs.Runs.{AreAnswered, AreBegun, AreWritten, AreWrittenTo, IsAnswered, IsBroken};
-ghost use Rattle.cml_stream.specs.{Counts.{Calls, most_reads}, Streams.{stream, Takes, TakesStart}};
+ghost use Rattle.cml_trace.specs.Runs.{AreAnswered, AreBegun, AreWritten, AreWrittenTo, Came, IsAnswered, IsBegun, IsBroken};
+ghost use Rattle.cml_stream.specs.{Counts.{Calls, most_reads}, Streams.{Stream, stream, Takes, TakesStart}};
 
 use crate::batch::{Batch, Stop, gather};
 use crate::explained::explain_trace;
@@ -78,11 +78,9 @@ pub fn run_trace_over<T: Table + Drop, R: Read, W: Write>(
     ensures same { (reader.new.stream.ghost_name ≡ reader.old.stream.ghost_name) × (writer.new.stream.ghost_name ≡ writer.old.stream.ghost_name) }
 {
     let input = read_all(alloc, reader, MAX_INPUT)?;
-    if input.len() > MAX_INPUT {
-        write_out(writer, b"too long\n")?;
-        return Ok(TraceEnd::TooLong);
-    }
-    answer(alloc, table, input.as_slice(), writer)
+    let result = answer(alloc, table, input.as_slice(), writer);
+    drop(input);
+    result
 }
 
 /// Answers a trace as [`run_trace`] does, and then appends what is told of it: why commands were refused, and why a line is bad.
@@ -109,47 +107,65 @@ pub fn run_trace_explained<R: Read, W: Write>(
     ensures same { (reader.new.stream.ghost_name ≡ reader.old.stream.ghost_name) × (writer.new.stream.ghost_name ≡ writer.old.stream.ghost_name) }
 {
     let input = read_all(alloc, reader, MAX_INPUT)?;
-    if input.len() > MAX_INPUT {
-        write_out(writer, b"too long\n")?;
-        told.push_str("a trace has at most 1048576 bytes; with --live there is no limit\n")?;
-        return Ok(TraceEnd::TooLong);
-    }
-    let end = answer(alloc, OfferIndex::new(alloc), input.as_slice(), writer)?;
-    tell(alloc, told, input.as_slice())?;
+    let result = answer_and_tell(alloc, told, input.as_slice(), writer);
+    drop(input);
+    result
+}
+
+// Answers this trace, and appends what is told of it.
+fn answer_and_tell<W: Write>(
+    alloc: Global,
+    told: &mut String,
+    trace: &[u8],
+    writer: &mut Counting<'_, W>,
+) -> Result<TraceEnd, TraceFault>
+    requires { writer.old.failed ≡ 0 }
+    ensures ok { let output = stream (W.contents writer.old.stream.now) (W.contents writer.new.stream.now) in
+        (input : Stream) → Came input trace.now → IfOk result (IsAnswered input output) }
+    ensures err { let output = stream (W.contents writer.old.stream.now) (W.contents writer.new.stream.now) in
+        (input : Stream) → Came input trace.now → OnErr result (IsBegun input output) }
+    ensures same_reference { writer.new.stream.ghost_name ≡ writer.old.stream.ghost_name }
+    ensures failed { IsWriteFailure result writer.new.failed }
+{
+    let end = answer(alloc, OfferIndex::new(alloc), trace, writer)?;
+    tell(alloc, told, trace)?;
     Ok(end)
 }
 
-// Appends what is told of a trace that is not too long.
-fn tell(alloc: Global, text: &mut String, trace: &[u8]) -> Result<(), AllocError>
-    requires { length trace.now ≤ max_input }
-{
+// Appends what is told of this trace.
+fn tell(alloc: Global, text: &mut String, trace: &[u8]) -> Result<(), AllocError> {
+    if trace.len() > MAX_INPUT {
+        return text.push_str("a trace has at most 1048576 bytes; with --live there is no limit\n");
+    }
     let told = explain_trace(alloc, trace)?;
     let result = write_told(text, told.as_slice());
     drop(told);
     result
 }
 
-// Answers a trace that is not too long.
+// Answers this trace.
 fn answer<T: Table + Drop, W: Write>(
     alloc: Global,
     table: T,
-    input: &[u8],
+    trace: &[u8],
     writer: &mut Counting<'_, W>,
 ) -> Result<TraceEnd, TraceFault>
     requires nothing_told { T.entries table ≡ [] }
-    requires short { length input.now ≤ max_input }
     requires fresh { writer.old.failed ≡ 0 }
-    ensures ok { let all : TraceLines = record { number = 1; left = trace_lines input.now } in
-        let output = stream (W.contents writer.old.stream.now) (W.contents writer.new.stream.now) in
-        IfOk result (λ end. (v : PlainWorld) × AreWritten all empty_world v output end) }
-    ensures err { let all : TraceLines = record { number = 1; left = trace_lines input.now } in
-        let output = stream (W.contents writer.old.stream.now) (W.contents writer.new.stream.now) in
-        OnErr result (AreWrittenTo all empty_world output) }
+    ensures ok { let output = stream (W.contents writer.old.stream.now) (W.contents writer.new.stream.now) in
+        (input : Stream) → Came input trace.now → IfOk result (IsAnswered input output) }
+    ensures err { let output = stream (W.contents writer.old.stream.now) (W.contents writer.new.stream.now) in
+        (input : Stream) → Came input trace.now → OnErr result (IsBegun input output) }
     ensures same_reference { writer.new.stream.ghost_name ≡ writer.old.stream.ghost_name }
     ensures failed { IsWriteFailure result writer.new.failed }
 {
+    if trace.len() > MAX_INPUT {
+        drop(table);
+        write_out(writer, b"too long\n")?;
+        return Ok(TraceEnd::TooLong);
+    }
     let mut book = Book::new(alloc, table);
-    let result = write_answer(alloc, &mut book, &mut Lines::new(1, input), writer);
+    let result = write_answer(alloc, &mut book, &mut Lines::new(1, trace), writer);
     drop(book);
     result
 }
@@ -252,9 +268,15 @@ fn do_commands<T: Table, W: Write>(
     ensures failed { IsWriteFailure result writer.new.failed }
 {
     match book.run(alloc, commands) {
-        Ok(replies) => tell_replies(alloc, replies.as_slice(), page, writer),
+        Ok(replies) => {
+            let result = tell_replies(alloc, replies.as_slice(), page, writer);
+            drop(replies);
+            result
+        }
         Err(stopped) => {
-            tell_replies(alloc, stopped.replies.as_slice(), page, writer)?;
+            let told = tell_replies(alloc, stopped.replies.as_slice(), page, writer);
+            drop(stopped);
+            told?;
             Err(TraceFault::Memory)
         }
     }

@@ -107,11 +107,18 @@ fn do_command<T: Table>(
     ensures told { OnOk result (told.new.items ≡ told.old.items ++ told_of number book.old (order.Do command)) }
 {
     match book.perform(alloc, command) {
-        Ok(reply) => match refusal_in(&reply) {
-            Some(why) => tell_refused(alloc, book, told, number, line, why),
-            None => Ok(()),
-        },
-        Err(_) => Err(AllocError),
+        Ok(reply) => {
+            let refusal = refusal_in(&reply);
+            drop(reply);
+            match refusal {
+                Some(why) => tell_refused(alloc, book, told, number, line, why),
+                None => Ok(()),
+            }
+        }
+        Err(returned) => {
+            drop(returned);
+            Err(AllocError)
+        }
     }
 }
 

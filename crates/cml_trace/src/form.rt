@@ -84,13 +84,12 @@ fn pair_from(
     ensures { IfOk result (λ value. value ≡ spec.pair_value kind first second) }
 {
     if kind != Some(Keyword::Pair) {
+        drop(first);
+        drop(second);
         return Ok(None);
     }
-    let Some(first) = first else {
-        return Ok(None);
-    };
-    match second {
-        Some(second) => Ok(Some(Value::pair(alloc, first, second)?)),
+    match first.zip(second) {
+        Some((first, second)) => Ok(Some(Value::pair(alloc, first, second)?)),
         None => Ok(None),
     }
 }

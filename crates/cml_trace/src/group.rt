@@ -86,12 +86,15 @@ fn wrap_from(
     ensures { let by = spec.function_from function.now captured.now in
         IfOk result (λ group. group ≡ both plain.wrap inner by) }
 {
-    let Some(inner) = inner else {
-        return Ok(None);
-    };
-    match function_from(alloc, function, captured)? {
-        Some(function) => Ok(Some(inner.wrap(alloc, function)?)),
-        None => Ok(None),
+    match function_from(alloc, function, captured) {
+        Ok(by) => match inner.zip(by) {
+            Some((inner, by)) => Ok(Some(inner.wrap(alloc, by)?)),
+            None => Ok(None),
+        },
+        Err(AllocError) => {
+            drop(inner);
+            Err(AllocError)
+        }
     }
 }
 
@@ -104,11 +107,8 @@ fn scope_from(
     ensures { let nack = number_spec.number_from number.now in
         IfOk result (λ group. group ≡ both plain.scope nack inner) }
 {
-    let Some(nack) = number_from(number) else {
-        return Ok(None);
-    };
-    match inner {
-        Some(inner) => Ok(Some(inner.scope(alloc, NackId(nack))?)),
+    match number_from(number).zip(inner) {
+        Some((nack, inner)) => Ok(Some(inner.scope(alloc, NackId(nack))?)),
         None => Ok(None),
     }
 }

@@ -1,7 +1,7 @@
 //! The lines that answer commands.
 
 ghost use Rattle.std.specs.{Prelude.{◌≡◌, ◌++◌, map, OnOk, OnErr}, List.{flat_map}, String.{string_bytes}};
-ghost use Rattle.cml_value.specs.Value.{values};
+ghost use Rattle.cml_value.specs.{Show.{shown}, Value.{values}};
 ghost use Rattle.cml_trace.specs.{Answers.{bad_line}, Faults.{IsWriteFailure}, Pages.{Tells, TellsStart}};
 ghost use Rattle.cml_trace.specs.Replies as spec;
 ghost use Rattle.cml_stream.specs.Streams.{stream};
@@ -45,19 +45,26 @@ fn push_reply(alloc: Global, text: &mut String, reply: &Reply) -> Result<(), All
         OnOk result (string_bytes text.new ≡ string_bytes text.old ++ lines) }
 {
     match reply {
-        Reply::Thread(thread) => writeln!(text, "thread {}", thread.0),
-        Reply::Chan(channel) => writeln!(text, "chan {}", channel.0),
-        Reply::Swap(channel) => writeln!(text, "swapchan {}", channel.0),
-        Reply::IVar(variable) => writeln!(text, "ivar {}", variable.0),
-        Reply::MVar(variable) => writeln!(text, "mvar {}", variable.0),
-        Reply::Mailbox(mailbox) => writeln!(text, "mailbox {}", mailbox.0),
-        Reply::Mchan(channel) => writeln!(text, "mchan {}", channel.0),
-        Reply::Port(port) => writeln!(text, "port {}", port.0),
-        Reply::Nack(nack) => writeln!(text, "nack {}", nack.0),
+        Reply::Thread(thread) => push_made(text, "thread", thread.0),
+        Reply::Chan(channel) => push_made(text, "chan", channel.0),
+        Reply::Swap(channel) => push_made(text, "swapchan", channel.0),
+        Reply::IVar(variable) => push_made(text, "ivar", variable.0),
+        Reply::MVar(variable) => push_made(text, "mvar", variable.0),
+        Reply::Mailbox(mailbox) => push_made(text, "mailbox", mailbox.0),
+        Reply::Mchan(channel) => push_made(text, "mchan", channel.0),
+        Reply::Port(port) => push_made(text, "port", port.0),
+        Reply::Nack(nack) => push_made(text, "nack", nack.0),
         Reply::Done => text.push_str("ok\n"),
         Reply::Committed(committed) => push_committed(alloc, text, committed),
         Reply::Refused(why) => push_refusal(text, *why),
     }
+}
+
+// The line that answers where this was made, with this number.
+fn push_made(text: &mut String, name: &str, number: u32) -> Result<(), AllocError>
+    ensures { OnOk result (string_bytes text.new ≡ string_bytes text.old ++ spec.line (name.now ++ spec.spaced number)) }
+{
+    writeln!(text, "{name} {number}")
 }
 
 /// Tells the number of the rows, and each on a line.
@@ -143,14 +150,22 @@ fn push_resume(alloc: Global, text: &mut String, resume: &Resume) -> Result<(), 
     ensures { let line = spec.resume_line resume.now in
         OnOk result (string_bytes text.new ≡ string_bytes text.old ++ line) }
 {
-    let thread = resume.tid.0;
-    let value = resume.value.show(alloc)?;
-    write!(text, "resume {thread} ")?;
-    text.push_str(value.as_str())?;
+    write!(text, "resume {} ", resume.tid.0)?;
+    push_value(alloc, text, &resume.value)?;
     for function in &resume.wraps {
         push_function(alloc, text, function)?;
     }
     text.push_str("\n")
+}
+
+// The value as it is shown.
+fn push_value(alloc: Global, text: &mut String, value: &Value) -> Result<(), AllocError>
+    ensures { OnOk result (string_bytes text.new ≡ string_bytes text.old ++ shown value.now) }
+{
+    let shown = value.show(alloc)?;
+    let result = text.push_str(shown.as_str());
+    drop(shown);
+    result
 }
 
 // The nacks that fired for this party.
@@ -165,8 +180,7 @@ fn push_function(alloc: Global, text: &mut String, function: &FnRef) -> Result<(
     ensures { let shown = spec.shown_function function.now in
         OnOk result (string_bytes text.new ≡ string_bytes text.old ++ shown) }
 {
-    let number = function.func();
-    write!(text, " ({number}")?;
+    write!(text, " ({}", function.func())?;
     push_values(alloc, text, function.args())?;
     text.push_str(")")
 }
@@ -176,9 +190,8 @@ fn push_values(alloc: Global, text: &mut String, captured: &[Value]) -> Result<(
         OnOk result (string_bytes text.new ≡ string_bytes text.old ++ shown) }
 {
     for value in captured {
-        let shown = value.show(alloc)?;
         text.push_str(" ")?;
-        text.push_str(shown.as_str())?;
+        push_value(alloc, text, value)?;
     }
     Ok(())
 }

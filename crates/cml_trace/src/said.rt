@@ -69,58 +69,59 @@ fn usage(keyword: Keyword) -> &'static str {
 
 fn push_why(text: &mut String, why: Why) -> Result<(), AllocError> {
     match why {
-        Why::Absent(thing) => write!(text, "there is no {} {}", name(thing.kind), thing.number),
-        Why::NoMore(kind) => push_no_more(text, kind),
-        Why::Filled(thing) => push_of(text, thing, " is full, so nothing can be put into it"),
-        Why::Crowded(thing) => push_crowded(text, thing),
-        Why::DeepValue => push_deep(text, "value"),
-        Why::DeepGroup => push_deep(text, "group"),
-        Why::ManyLeaves => text.push_str("the group has more than 256 events"),
-        Why::FarTick => push_far(text, "the tick"),
-        Why::FarTickOfGroup => push_far(text, "a tick of the group"),
-        Why::Pending(thread, act) => write!(
+        Why::Absent(thing) => push_thing(text, "there is no ", thing, ""),
+        Why::NoMore(kind) => text.push_str(no_more(kind)),
+        Why::Filled(thing) => push_thing(
             text,
-            "thread {thread} is pending, so it can't {}",
-            pending_act(act)
+            "",
+            thing,
+            " is full, so nothing can be put into it",
         ),
-        Why::Ended(thread, act) => {
-            write!(
-                text,
-                "thread {thread} has ended, so it can't {}",
-                ended_act(act)
-            )
+        Why::Crowded(thing) => push_crowded(text, thing),
+        Why::DeepValue => {
+            text.push_str("the value is deeper than 64, or has more than 65536 nodes")
+        }
+        Why::DeepGroup => {
+            text.push_str("the group is deeper than 64, or has more than 65536 nodes")
+        }
+        Why::ManyLeaves => text.push_str("the group has more than 256 events"),
+        Why::FarTick => text.push_str("the tick lies above 4611686018427387904"),
+        Why::FarTickOfGroup => {
+            text.push_str("a tick of the group lies above 4611686018427387904")
         }
         Why::AbsentOfGroup => text.push_str("the group names what does not exist"),
         Why::NotOfScope(nack) => push_stale(text, nack),
         Why::SharedNack => text.push_str("two scopes of the group have one nack"),
-        _ => push_row_why(text, why),
+        _ => push_why_of_thread(text, why),
     }
 }
 
-// Of a row that can't be taken, and of the time.
-fn push_row_why(text: &mut String, why: Why) -> Result<(), AllocError> {
+// Of a thread, of a row that can't be taken, and of the time.
+fn push_why_of_thread(text: &mut String, why: Why) -> Result<(), AllocError> {
     match why {
-        Why::PartyRuns(thread) => write!(
-            text,
-            "thread {thread} runs, so none of its events can be taken"
-        ),
-        Why::PartyEnded(thread) => write!(
-            text,
-            "thread {thread} has ended, so none of its events can be taken"
-        ),
-        Why::NotAlone(leaf) => {
-            push_leaf(text, leaf)?;
-            text.push_str(" can't be taken alone now")
+        Why::Pending(thread, act) => {
+            push_thread(text, thread, " is pending, so it can't ", pending_act(act))
         }
+        Why::Ended(thread, act) => {
+            push_thread(text, thread, " has ended, so it can't ", ended_act(act))
+        }
+        Why::PartyRuns(thread) => push_thread(text, thread, " runs", NONE_TAKEN),
+        Why::PartyEnded(thread) => push_thread(text, thread, " has ended", NONE_TAKEN),
+        Why::NotAlone(leaf) => push_leaf(text, leaf, " can't be taken alone now"),
         Why::NotTogether(first, second) => {
-            push_leaf(text, first)?;
-            text.push_str(" and ")?;
-            push_leaf(text, second)?;
-            text.push_str(" can't be taken together now")
+            push_leaf(text, first, " and ")?;
+            push_leaf(text, second, " can't be taken together now")
         }
         Why::Back(now, to) => write!(text, "the time is {now} already, so it can't become {to}"),
         _ => Ok(()),
     }
+}
+
+// That nothing of a thread can be taken.
+const NONE_TAKEN: &str = ", so none of its events can be taken";
+
+fn push_thread(text: &mut String, thread: u32, is: &str, so: &str) -> Result<(), AllocError> {
+    write!(text, "thread {thread}{is}{so}")
 }
 
 fn name(kind: Kind) -> &'static str {
@@ -137,44 +138,41 @@ fn name(kind: Kind) -> &'static str {
     }
 }
 
-fn push_no_more(text: &mut String, kind: Kind) -> Result<(), AllocError> {
-    let (most, names) = match kind {
-        Kind::Thread => (4_096, "threads"),
-        Kind::Channel => (65_536, "channels"),
-        Kind::SwapChannel => (65_536, "swap channels"),
-        Kind::IVar => (65_536, "I-variables"),
-        Kind::MVar => (65_536, "M-variables"),
-        Kind::Mailbox => (65_536, "mailboxes"),
-        Kind::Multicast => (65_536, "multicast channels"),
-        Kind::Port => (65_536, "ports"),
-        Kind::Nack => (65_536, "nacks"),
-    };
-    write!(text, "there are {most} {names}, and there can't be more")
+fn no_more(kind: Kind) -> &'static str {
+    match kind {
+        Kind::Thread => "there are 4096 threads, and there can't be more",
+        Kind::Channel => "there are 65536 channels, and there can't be more",
+        Kind::SwapChannel => "there are 65536 swap channels, and there can't be more",
+        Kind::IVar => "there are 65536 I-variables, and there can't be more",
+        Kind::MVar => "there are 65536 M-variables, and there can't be more",
+        Kind::Mailbox => "there are 65536 mailboxes, and there can't be more",
+        Kind::Multicast => "there are 65536 multicast channels, and there can't be more",
+        Kind::Port => "there are 65536 ports, and there can't be more",
+        Kind::Nack => "there are 65536 nacks, and there can't be more",
+    }
 }
 
-fn push_of(text: &mut String, thing: Thing, words: &str) -> Result<(), AllocError> {
-    write!(text, "{} {}{words}", name(thing.kind), thing.number)
+// The thing, between these words.
+fn push_thing(
+    text: &mut String,
+    before: &str,
+    thing: Thing,
+    after: &str,
+) -> Result<(), AllocError> {
+    let name = name(thing.kind);
+    write!(text, "{before}{name} {}{after}", thing.number)
 }
 
 fn push_crowded(text: &mut String, thing: Thing) -> Result<(), AllocError> {
     match thing.kind {
-        Kind::Mailbox => push_of(text, thing, " has as many items as it can hold"),
-        _ => {
-            text.push_str("a port of ")?;
-            push_of(text, thing, " has as many messages as it can hold")
-        }
+        Kind::Mailbox => push_thing(text, "", thing, " has as many items as it can hold"),
+        _ => push_thing(
+            text,
+            "a port of ",
+            thing,
+            " has as many messages as it can hold",
+        ),
     }
-}
-
-fn push_deep(text: &mut String, what: &str) -> Result<(), AllocError> {
-    write!(
-        text,
-        "the {what} is deeper than 64, or has more than 65536 nodes"
-    )
-}
-
-fn push_far(text: &mut String, what: &str) -> Result<(), AllocError> {
-    write!(text, "{what} lies above 4611686018427387904")
 }
 
 fn pending_act(act: Act) -> &'static str {
@@ -194,15 +192,22 @@ fn ended_act(act: Act) -> &'static str {
 }
 
 fn push_stale(text: &mut String, stale: StaleNack) -> Result<(), AllocError> {
-    write!(text, "nack {}", stale.nack)?;
     match stale.state {
-        Stale::OfThread(thread) => write!(text, " belongs to thread {thread}"),
-        Stale::Live => text.push_str(" has its branch already"),
-        Stale::Fired => text.push_str(" has fired already"),
-        Stale::Held => text.push_str(" had its branch, of which an event was taken"),
+        Stale::OfThread(thread) => write!(text, "nack {} belongs to thread {thread}", stale.nack),
+        Stale::Live => push_nack(text, stale.nack, " has its branch already"),
+        Stale::Fired => push_nack(text, stale.nack, " has fired already"),
+        Stale::Held => push_nack(
+            text,
+            stale.nack,
+            " had its branch, of which an event was taken",
+        ),
     }
 }
 
-fn push_leaf(text: &mut String, leaf: Leaf) -> Result<(), AllocError> {
-    write!(text, "event {} of thread {}", leaf.leaf, leaf.thread)
+fn push_nack(text: &mut String, nack: u32, after: &str) -> Result<(), AllocError> {
+    write!(text, "nack {nack}{after}")
+}
+
+fn push_leaf(text: &mut String, leaf: Leaf, after: &str) -> Result<(), AllocError> {
+    write!(text, "event {} of thread {}{after}", leaf.leaf, leaf.thread)
 }

@@ -37,14 +37,16 @@ unfolding stack_mixed
 stack_done hs a total is h = sym (ap (λ l. fold entry_mixed a (reverse l)) is) ∙ h
 
 -- the digest of the parts of a world, one after another
-pub digest_is : (w : PlainWorld) (machines : List PlainMachine) (threads : List ThreadState) (queues : List (Vec PlainValue Global)) (a b c d e r : ℕ) → a ≡ mix w.tick w.channels
+pub digest_is : (w : PlainWorld) (machines : List PlainMachine) (threads : List ThreadState) (queues messages : List (Vec PlainValue Global)) (a b c d e f r : ℕ) → a ≡ mix w.tick w.channels
     → map thread_of threads ≡ w.threads → b ≡ fold (λ x t. thread_mixed x (thread_of t)) a threads → c ≡ fold variable_mixed b w.ivars → d ≡ fold variable_mixed c w.mvars
-    → lists_of queues ≡ w.mailboxes → e ≡ fold (λ x q. queue_mixed x q.items) d queues → r ≡ fold (λ x m. stack_mixed x m.stack) e machines → r ≡ digest_at w machines
+    → lists_of queues ≡ w.mailboxes → e ≡ fold (λ x q. queue_mixed x q.items) d queues → lists_of messages ≡ w.ports → f ≡ fold (λ x q. queue_mixed x q.items) e messages
+    → r ≡ fold (λ x m. stack_mixed x m.stack) f machines → r ≡ digest_at w machines
 unfolding digest_at
-digest_is w machines threads queues a b c d e r counts ts threads_are ivars_are mvars_are qs queues_are all =
+digest_is w machines threads queues messages a b c d e f r counts ts threads_are ivars_are mvars_are qs queues_are ms messages_are all =
     let over_threads : b ≡ fold thread_mixed (mix w.tick w.channels) w.threads =
     threads_are ∙ fold_map thread_mixed thread_of threads a ∙ ap (fold thread_mixed a) ts ∙ ap (λ x. fold thread_mixed x w.threads) counts in
     let over_ivars = ivars_are ∙ ap (λ x. fold variable_mixed x w.ivars) over_threads in
     let over_mvars = mvars_are ∙ ap (λ x. fold variable_mixed x w.mvars) over_ivars in
     let over_queues = queues_are ∙ fold_map queue_mixed (λ q. q.items) queues d ∙ ap (fold queue_mixed d) qs ∙ ap (λ x. fold queue_mixed x w.mailboxes) over_mvars in
-    all ∙ ap (λ x. fold (λ y m. stack_mixed y m.stack) x machines) over_queues
+    let over_messages = messages_are ∙ fold_map queue_mixed (λ q. q.items) messages e ∙ ap (fold queue_mixed e) ms ∙ ap (λ x. fold queue_mixed x w.ports) over_queues in
+    all ∙ ap (λ x. fold (λ y m. stack_mixed y m.stack) x machines) over_messages

@@ -3,6 +3,7 @@ pub mod Reading
 pub mod Showing
 pub mod Coming
 pub mod Stepping
+pub mod Counting
 pub mod Endings
 pub mod Verdicts
 pub mod Digesting

@@ -1,5 +1,6 @@
 -- Lists that are read place by place.
-use Rattle.std.proofs.Common.{◌≡◌, ℕ, zero, suc, ◌+◌, ◌<◌, ◌≤◌, Bool, true, false, ◌||◌, List, [], ◌∷◌, ◌++◌, length, map, take, drop, get_or, Option, None, Some, slice_get, ◌⊎◌, inl, inr, refl, ap, sym, ◌∙◌, ◌↔◌, drop-cons, append_assoc, arith, true≢false}
+use Rattle.std.proofs.Common.{◌≡◌, ℕ, zero, suc, ◌+◌, ◌<◌, Bool, true, false, ◌||◌, List, [], ◌∷◌, ◌++◌, length, map, take, drop, get_or, Option, None, Some, slice_get}
+use Rattle.std.proofs.Common.{refl, ap, sym, ◌∙◌, ◌↔◌, drop-cons, append_assoc, arith, true≢false}
 use Rattle.std.specs.Prelude.{option_map}
 use Rattle.std.specs.List.{list_any, range_with_len}
 use Rattle.std.specs.Option.{option_map_or}
@@ -11,7 +12,7 @@ use Rattle.cml_value.specs.Value.{PlainValue}
 use Rattle.cml_scan.specs.World.{PlainWorld}
 use Rattle.cml_schedule.specs.declared.item.Item.TheVariants.{Turn}
 use Rattle.cml_book.specs.Commit.{held_in}
-use Rattle.cml_search.proofs.Places.{there, either_way}
+use Rattle.cml_search.proofs.Places.{there}
 use Rattle.cml_verify.specs.Cores.{turns}
 
 pub taken_next : {X : Type 0} (xs : List X) (k : ℕ) (x : X) → slice_get xs k ≡ Some x → take (k + 1) xs ≡ take k xs ++ x ∷ []
@@ -61,13 +62,9 @@ other_next f xs ys i x y in_x in_y x_is y_is n h =
 pub grows : {X : Type 0} (old items after xs : List X) (k : ℕ) (x : X) → after ≡ items ++ x ∷ [] → items ≡ old ++ take k xs → slice_get xs k ≡ Some x → after ≡ old ++ take (k + 1) xs
 grows old items after xs k x e h at = e ∙ (ap (λ l. l ++ x ∷ []) h ∙ (append_assoc old (take k xs) (x ∷ []) ∙ ap (λ l. old ++ l) (sym (taken_next xs k x at))))
 
--- no machine stands at the place behind
-pub none_behind : {X : Type 0} (xs : List X) (k : ℕ) → slice_get xs k ≡ None → length xs ≤ k
-none_behind xs k h = by (either_way (length xs) k)
-  where
-    by : (length xs ≤ k) ⊎ (k < length xs) → length xs ≤ k
-    by (inl e) = e
-    by (inr e) = let t = there xs k e in let f : None ≡ Some t.0 = sym h ∙ t.1 in absurd (cc)
+-- a list has something at each of its places
+pub not_there : {X : Type 0} (xs : List X) (k : ℕ) → k < length xs → None ≡ slice_get xs k → ⊥
+not_there xs k lt h = let t = there xs k lt in let f : None ≡ Some t.0 = h ∙ t.1 in cc
 
 -- a thread that runs, and threads of which none does
 module _ {X : Type 0} (test : X → Bool) where

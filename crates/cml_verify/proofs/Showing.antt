@@ -1,6 +1,6 @@
--- What a book shows of a thread, of a variable and of a mailbox.
-use Rattle.std.proofs.Common.{◌≡◌, ℕ, true, false, List, [], ◌∷◌, length, Option, None, Some, refl, ap, sym, true≢false, arith}
-use Rattle.std.specs.Prelude.{option_map}
+-- What a book shows of a thread and of a queue.
+use Rattle.std.proofs.Common.{◌≡◌, ℕ, ◌<◌, true, false, List, [], length, Option, None, Some, slice_get, refl, ap, sym, ◌∙◌, true≢false}
+use Rattle.std.specs.Prelude.{option_map, unwrap_or}
 use Rattle.std.specs.Option.{option_map_or, option_and_then}
 use Rattle.std.proofs.lemmas.Option.{same_Some}
 use Rattle.cml_value.specs.Value.{PlainValue}
@@ -8,7 +8,8 @@ use Rattle.cml_value.specs.Group.{PlainGroup}
 use Rattle.cml_scan.specs.World.{PlainThread, running, pending_on, ended}
 use Rattle.cml_book.specs.Walks.{runs}
 use Rattle.cml_book.specs.Threads.{flat_of}
-use Rattle.cml_book.specs.Holding.{first_in}
+use Rattle.cml_book.specs.Holding.{item_in}
+use Rattle.cml_search.proofs.Places.{there}
 
 pub runs_is : (o : Option PlainThread) → option_map_or runs o false ≡ true → o ≡ Some running
 runs_is None h = absurd (true≢false (sym h))
@@ -28,13 +29,21 @@ ended_is (Some running) x e h n = absurd (true≢false h)
 ended_is (Some (pending_on k)) x e h n = absurd (cc)
 ended_is (Some ended) x e h n = refl
 
-pub none_queued : (o : Option (List PlainValue)) (n : ℕ) → Some n ≡ option_map length o → n ≡ 0 → o ≡ Some []
-none_queued None n h e = absurd (cc)
-none_queued (Some []) n h e = refl
-none_queued (Some (v ∷ vs)) n h e = let f : n ≡ length (v ∷ vs) = same_Some n (length (v ∷ vs)) h in absurd (omega (arith, e, f))
+-- the items of a queue, and how many there are; one that is not there has none
+pub counted : (o : Option (List PlainValue)) → unwrap_or (option_map length o) 0 ≡ length (unwrap_or o [])
+counted None = refl
+counted (Some vs) = refl
 
-pub one_queued : (o : Option (List PlainValue)) (n : ℕ) (v : PlainValue) → Some n ≡ option_map length o → n ≡ 1 → Some v ≡ first_in o → o ≡ Some (v ∷ [])
-one_queued None n v h e f = absurd (cc)
-one_queued (Some []) n v h e f = absurd (cc)
-one_queued (Some (x ∷ [])) n v h e f = ap (λ y. Some (y ∷ [])) (sym (same_Some v x f))
-one_queued (Some (x ∷ y ∷ vs)) n v h e f = let g : n ≡ length (x ∷ y ∷ vs) = same_Some n (length (x ∷ y ∷ vs)) h in absurd (omega (arith, e, g))
+pub queue_there : (queues : List (List PlainValue)) (k : ℕ) (items : List PlainValue) → k < length queues → items ≡ unwrap_or (slice_get queues k) [] → slice_get queues k ≡ Some items
+queue_there queues k items lt e = let t = there queues k lt in t.1 ∙ ap (λ vs. Some vs) (sym (e ∙ ap (λ o. unwrap_or o []) t.1))
+
+-- an item that is shown, and one that is not
+item_of : (n : ℕ) (o : Option (List PlainValue)) → item_in n o ≡ slice_get (unwrap_or o []) n
+item_of n None = refl
+item_of n (Some vs) = refl
+
+pub item_shown : (n : ℕ) (o : Option (List PlainValue)) (v : PlainValue) → Some v ≡ item_in n o → slice_get (unwrap_or o []) n ≡ Some v
+item_shown n o v h = sym (h ∙ item_of n o)
+
+pub item_hidden : (n : ℕ) (o : Option (List PlainValue)) → n < length (unwrap_or o []) → None ≡ item_in n o → ⊥
+item_hidden n o lt h = let t = there (unwrap_or o []) n lt in let f : None ≡ Some t.0 = h ∙ item_of n o ∙ t.1 in cc

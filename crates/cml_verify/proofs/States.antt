@@ -8,11 +8,10 @@ use Rattle.cml_check.specs.Syntax.{PlainItem}
 use Rattle.cml_schedule.specs.declared.item.Item.{Item}
 use Rattle.cml_step.specs.Calls.{text_of}
 use Rattle.cml_hub.specs.Runs.{Run, stands}
-use Rattle.cml_hub.specs.Deeds.{fault_count}
 use Rattle.cml_search.specs.Systems.{System, run, IsReached}
 use Rattle.cml_search.specs.Searches.{IsSought}
 use Rattle.cml_search.proofs.Places.{place_of, all_at, mapped_has}
-use Rattle.cml_verify.specs.Cores.{Core, core_of, program_system}
+use Rattle.cml_verify.specs.Cores.{Core, past, core_of, program_system}
 use Rattle.cml_verify.specs.Kept.{PlainKept, core_kept, state_code}
 use Rattle.cml_verify.specs.Placed.{AreThreadsIn}
 use Rattle.cml_verify.specs.Sameness.{is_same, is_same_so}
@@ -48,10 +47,10 @@ mapped_behind {A = A} f xs k b h = by (slice_get xs k) refl (sym (slice_get-map 
 
 -- the state of which it is kept, and back
 abbrev state_kept : PlainKept → RunState
-state_kept k = record { world = k.world; machines = k.machines; faults = k.faults }
+state_kept k = record { world = k.world; machines = k.machines; began = k.began; faults = k.faults }
 
 abbrev kept_of : RunState → PlainKept
-kept_of s = record { world = s.world; machines = s.machines; faults = s.faults }
+kept_of s = record { world = s.world; machines = s.machines; began = s.began; faults = s.faults }
 
 module _ (p : List (PlainItem ℕ)) (keys : List PlainKept) where
   abbrev cores : List Core
@@ -65,8 +64,15 @@ module _ (p : List (PlainItem ℕ)) (keys : List PlainKept) where
 
   stands_so : (schedule : List Item) (k : PlainKept) → run y y.start schedule ≡ Some (core_kept p k) → StandsSo p schedule (state_kept k)
   stands_so schedule k h =
-      let b = run_behind (fault_count (text_of p) schedule) (stands (text_of p) schedule) (core_kept p k) (sym (runs_core (text_of p) schedule) ∙ h) in
-      record { run = b.0; leads = b.1; world = ap (λ (c : Core). c.world) b.2; terms = ap (λ (c : Core). c.terms) b.2; faults = ap (λ (c : Core). c.faults) b.2 }
+      let b = run_behind (past (text_of p) schedule) (stands (text_of p) schedule) (core_kept p k) (sym (runs_core (text_of p) schedule) ∙ h) in
+      record {
+        run = b.0;
+        leads = b.1;
+        world = ap (λ (c : Core). c.world) b.2;
+        terms = ap (λ (c : Core). c.terms) b.2;
+        began = ap (λ (c : Core). c.past.began) b.2;
+        faults = ap (λ (c : Core). c.past.faults) b.2;
+      }
 
   different : IsDistinct (is_same state_code) keys → (j k : ℕ) (s : RunState) → slice_get states j ≡ Some s → slice_get states k ≡ Some s → j ≡ k
   different d j k s h g =
@@ -90,10 +96,10 @@ module _ (p : List (PlainItem ℕ)) (keys : List PlainKept) where
   module _ (most : Option ℕ) (all : (items : List Item) (c : Core) → IsWithin most items → IsSought y false items c → Contains cores c) where
     each : (schedule : List Item) (r : Run) → IsWithin most schedule → stands (text_of p) schedule ≡ Some r → (s : RunState) × Contains states s × StandsSo p schedule s
     each schedule r within h =
-        let n = fault_count (text_of p) schedule in
-        let leads : run y y.start schedule ≡ Some (core_of n r) = runs_core (text_of p) schedule ∙ ap (option_map (core_of n)) h in
-        let has = all schedule (core_of n r) within (leads, λ f. absurd (true≢false (sym f))) in
-        let b = mapped_behind (core_kept p) keys has.0 (core_of n r) (place_of cores (core_of n r) has) in
+        let a = past (text_of p) schedule in
+        let leads : run y y.start schedule ≡ Some (core_of a r) = runs_core (text_of p) schedule ∙ ap (option_map (core_of a)) h in
+        let has = all schedule (core_of a r) within (leads, λ f. absurd (true≢false (sym f))) in
+        let b = mapped_behind (core_kept p) keys has.0 (core_of a r) (place_of cores (core_of a r) has) in
         let kept : Contains keys b.0 = (has.0, slice_get_within keys has.0 b.0 b.1, get_or_from_slice_get keys has.0 b.0 b.0 b.1) in
         (state_kept b.0, mapped_has state_kept keys b.0 kept, stands_so schedule b.0 (leads ∙ ap (λ c. Some c) (sym b.2)))
 

@@ -1,18 +1,17 @@
 -- From where a hub stands to the states of the system.
-use Rattle.std.proofs.Common.{◌≡◌, ℕ, List, [], ◌∷◌, ◌++◌, Option, None, Some, refl, ap, sym, ◌∙◌}
-use Rattle.std.specs.Prelude.{option_map, option_and_then}
+use Rattle.std.proofs.Common.{◌≡◌, ℕ, Bool, true, false, if◌then◌else◌, List, [], ◌∷◌, ◌++◌, Option, None, Some, refl, ap, sym, subst, ◌∙◌, true≢false}
+use Rattle.std.specs.Prelude.{option_map, option_and_then, IsSome}
 use Rattle.std.proofs.lemmas.Option.{same_Some}
 use Rattle.cml_check.specs.Syntax.{PlainItem}
 use Rattle.cml_schedule.specs.declared.item.Item.{Item}
 use Rattle.cml_step.specs.Calls.{text_of}
 use Rattle.cml_hub.specs.Courses.{PlainCourse, run_of, Adds}
 use Rattle.cml_hub.specs.Kept.{Kept as Hub}
-use Rattle.cml_hub.specs.Runs.{Run, stands, opening}
-use Rattle.cml_hub.specs.Deeds.{fault_count}
+use Rattle.cml_hub.specs.Runs.{Run, stands, opening, is_allowed, after_item}
 use Rattle.cml_hub.proofs.Standing.{leads_on}
-use Rattle.cml_search.specs.Systems.{System, run, LeadsTo}
+use Rattle.cml_search.specs.Systems.{System, run, LeadsTo, IsSchedule}
 use Rattle.cml_search.proofs.Runs.{begins, run-cons}
-use Rattle.cml_verify.specs.Cores.{Core, core_of, allowed, program_system}
+use Rattle.cml_verify.specs.Cores.{Past, past, more, Core, core_of, run_at, done_by, allowed, program_system}
 use Rattle.cml_verify.specs.Kept.{PlainKept, core_kept, KeepsCourse, IsAfter}
 use Rattle.cml_verify.proofs.Viewed.{runs_core}
 
@@ -29,29 +28,48 @@ run_one y s (j ∷ items) i t h = let b = begins y s j items t h in run-cons y s
 pub leads_as : (q p : List (PlainItem ℕ)) (others schedule : List Item) (r : Run) → q ≡ p → others ≡ schedule → stands (text_of q) others ≡ Some r → stands (text_of p) schedule ≡ Some r
 leads_as q p others schedule r e f h = rw (← e, ← f) h
 
+-- a schedule leads somewhere
+pub leads_nowhere : (q p : List (PlainItem ℕ)) (items : List Item) → q ≡ p → stands (text_of q) items ≡ None → IsSchedule (program_system (text_of p)) items → ⊥
+leads_nowhere q p items e h s =
+    let none : stands (text_of p) items ≡ None = subst (λ x. stands (text_of x) items ≡ None) e h in
+    let f : None ≡ Some s.0 = sym (ap (option_map (core_of (past (text_of p) items))) none) ∙ sym (runs_core (text_of p) items) ∙ s.1 in
+    cc
+
+-- an item that is not allowed leads nowhere
+none_if : (a : Past) (b : Bool) (o : Option Run) → b ≡ false → IsSome (option_map (core_of a) (if b then o else None)) → ⊥
+none_if a true o e h = true≢false e
+none_if a false o e h = true≢false (sym h)
+
 -- what is kept of a course is its core
 kept_is : (c : PlainCourse) (k : PlainKept) (p : List (PlainItem ℕ)) (items : List Item) → KeepsCourse c k → c.program ≡ p → c.items ≡ items
-    → core_kept p k ≡ core_of (fault_count (text_of p) items) (run_of c)
-kept_is c k p items h e f = rw (h.world, h.machines, h.faults, ← e, ← f) refl
+    → core_kept p k ≡ core_of (past (text_of p) items) (run_of c)
+kept_is c k p items h e f = rw (h.world, h.machines, h.began, h.faults, ← e, ← f) refl
 
 module _ (p : List (PlainItem ℕ)) (schedule : List Item) (h : Hub) (after : IsAfter p schedule h) where
   -- where the hub stands
   abbrev pub here : Core
-  here = core_of (fault_count (text_of p) schedule) (run_of h.course)
+  here = core_of (past (text_of p) schedule) (run_of h.course)
 
-  pub leads_here : run (program_system (text_of p)) (core_of 0 (opening (text_of p))) schedule ≡ Some here
-  leads_here = runs_core (text_of p) schedule ∙ ap (option_map (core_of (fault_count (text_of p) schedule))) after.leads
+  pub leads_here : run (program_system (text_of p)) (core_of (past (text_of p) []) (opening (text_of p))) schedule ≡ Some here
+  leads_here = runs_core (text_of p) schedule ∙ ap (option_map (core_of (past (text_of p) schedule))) after.leads
 
-  pub keeps_here : (k : PlainKept) → KeepsCourse h.course k → run (program_system (text_of p)) (core_of 0 (opening (text_of p))) schedule ≡ Some (core_kept p k)
+  pub keeps_here : (k : PlainKept) → KeepsCourse h.course k → run (program_system (text_of p)) (core_of (past (text_of p) []) (opening (text_of p))) schedule ≡ Some (core_kept p k)
   keeps_here k kept = leads_here ∙ ap (λ c. Some c) (sym (kept_is h.course k p schedule kept after.program after.items))
 
-  pub allowed_here : (items : List Item) → items ≡ allowed (text_of h.course.program) (core_of (fault_count (text_of h.course.program) h.course.items) (run_of h.course))
+  pub allowed_here : (items : List Item) → items ≡ allowed (text_of h.course.program) (core_of (past (text_of h.course.program) h.course.items) (run_of h.course))
       → LeadsTo (program_system (text_of p)) schedule (λ s. items ≡ (program_system (text_of p)).allowed s)
   allowed_here items e = (here, leads_here, e ∙ by h.course.program h.course.items after.program after.items)
     where
       by : (q : List (PlainItem ℕ)) (others : List Item) → q ≡ p → others ≡ schedule
-          → allowed (text_of q) (core_of (fault_count (text_of q) others) (run_of h.course)) ≡ allowed (text_of p) here
+          → allowed (text_of q) (core_of (past (text_of q) others) (run_of h.course)) ≡ allowed (text_of p) here
       by q others e f = rw (e, f) refl
+
+  -- an item that can come is allowed
+  pub comes_here : (item : Item) → LeadsTo (program_system (text_of p)) schedule (λ s. IsSome ((program_system (text_of p)).step s item)) → is_allowed h.course.world item ≡ false → ⊥
+  comes_here item can refused =
+      let is : can.0 ≡ here = same_Some can.0 here (sym can.1 ∙ leads_here) in
+      none_if (more here.past (done_by (text_of p) (run_at here) item)) (is_allowed h.course.world item) (after_item (text_of p) (run_at here) item) refused
+      (subst (λ c. IsSome ((program_system (text_of p)).step c item)) is can.2)
 
   pub steps_here : (item : Item) (new : Hub) (k : PlainKept) → Adds h.course item new.course → KeepsCourse new.course k
       → LeadsTo (program_system (text_of p)) schedule (λ s. (program_system (text_of p)).step s item ≡ Some (core_kept p k))
@@ -60,10 +78,10 @@ module _ (p : List (PlainItem ℕ)) (schedule : List Item) (h : Hub) (after : Is
       let q = text_of p in
       let on : stands q (schedule ++ item ∷ []) ≡ Some (run_of new.course) =
       leads_on q schedule item (run_of h.course) (Some (run_of new.course)) after.leads (rw (← after.program) adds.run) in
-      let is : core_kept p k ≡ core_of (fault_count q (schedule ++ item ∷ [])) (run_of new.course) =
+      let is : core_kept p k ≡ core_of (past q (schedule ++ item ∷ [])) (run_of new.course) =
       kept_is new.course k p (schedule ++ item ∷ []) kept (adds.program ∙ after.program) (adds.items ∙ ap (λ l. l ++ item ∷ []) after.items) in (
         here,
         leads_here,
         sym (run_one y y.start schedule item here leads_here) ∙ runs_core q (schedule ++ item ∷ [])
-            ∙ ap (option_map (core_of (fault_count q (schedule ++ item ∷ [])))) on ∙ ap (λ c. Some c) (sym is),
+            ∙ ap (option_map (core_of (past q (schedule ++ item ∷ [])))) on ∙ ap (λ c. Some c) (sym is),
       )

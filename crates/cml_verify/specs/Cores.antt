@@ -1,35 +1,50 @@
 -- The runs of a program, without what they have printed and used, as a system whose schedules are searched.
 use Rattle.std.specs.Prelude.{ℕ, Bool, false, List, [], ◌∷◌, ◌++◌, ◌+◌, length, map, filter, count_by, is_some, Option, Some, None, option_map}
-use Rattle.std.specs.List.{range_with_len}
+use Rattle.std.specs.List.{range_with_len, filter_map}
+use Rattle.cml_value.specs.Value.{PlainFunction}
 use Rattle.cml_scan.specs.World.{PlainWorld}
 use Rattle.cml_scan.specs.Scan.{scan}
 use Rattle.cml_schedule.specs.declared.item.Item.{Item}
 use Rattle.cml_schedule.specs.declared.item.Item.TheVariants.{Turn, Meet as Commit, Exchange, Clock}
 use Rattle.cml_step.specs.Terms.{Program, Term}
 use Rattle.cml_hub.specs.Runs.{Run, opening, advance, next_alarm}
-use Rattle.cml_hub.specs.Deeds.{deed, after_deed, is_fault}
+use Rattle.cml_hub.specs.Performed.{PlainDone}
+use Rattle.cml_hub.specs.Deeds.{deed, after_deed, begotten, is_fault, origins, fault_count}
 use Rattle.cml_search.specs.Systems.{System}
 
--- the world, the term of each thread, and how many threads ended at a fault
+-- what is known of the turns so far: with which function each thread began, and how many ended at a fault
+pub record Past : Type 0 where
+  pub began : List PlainFunction
+  pub faults : ℕ
+
+-- what is known of the turns of a schedule
+abbrev pub past : Program → List Item → Past
+past p items = record { began = origins p items; faults = fault_count p items }
+
+-- what is known once these were done too
+abbrev pub more : Past → List PlainDone → Past
+more a ds = record { began = a.began ++ filter_map begotten ds; faults = a.faults + count_by is_fault ds }
+
+-- the world, the term of each thread, and what is known of the turns
 pub record Core : Type 0 where
   pub world : PlainWorld
   pub terms : List Term
-  pub faults : ℕ
+  pub past : Past
 
-abbrev pub core_of : ℕ → Run → Core
-core_of faults r = record { world = r.world; terms = r.terms; faults = faults }
+abbrev pub core_of : Past → Run → Core
+core_of a r = record { world = r.world; terms = r.terms; past = a }
 
 -- the run that stands so, and has printed and used nothing
 abbrev pub run_at : Core → Run
 run_at c = record { world = c.world; terms = c.terms; output = []; used = 0 }
 
--- how many more threads have ended at a fault after the item
-abbrev pub faults_by : Program → Run → Item → ℕ
-faults_by p r item = count_by is_fault (after_deed (deed p r item) [])
+-- what the turn did, if the item is one
+abbrev pub done_by : Program → Run → Item → List PlainDone
+done_by p r item = after_deed (deed p r item) []
 
 -- the core after an item, where it is allowed
 abbrev pub core_step : Program → Core → Item → Option Core
-core_step p c item = option_map (core_of (c.faults + faults_by p (run_at c) item)) (advance p (run_at c) item)
+core_step p c item = option_map (core_of (more c.past (done_by p (run_at c) item))) (advance p (run_at c) item)
 
 -- whether an item can come
 abbrev pub can : Program → Core → Item → Bool
@@ -57,4 +72,4 @@ whose_turn _ = None
 
 -- the system; no turn of it is said to be quiet
 abbrev pub program_system : Program → System Core Item
-program_system p = record { start = core_of 0 (opening p); step = core_step p; allowed = allowed p; owner = whose_turn; quiet = λ _ _. false }
+program_system p = record { start = core_of (past p []) (opening p); step = core_step p; allowed = allowed p; owner = whose_turn; quiet = λ _ _. false }

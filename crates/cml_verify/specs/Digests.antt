@@ -44,4 +44,4 @@ unfoldable pub digest_at : PlainWorld → List PlainMachine → ℕ
 digest_at w machines =
     let threads = fold thread_mixed (mix w.tick w.channels) w.threads in
     let variables = fold variable_mixed (fold variable_mixed threads w.ivars) w.mvars in
-    fold (λ digest m. stack_mixed digest m.stack) (fold queue_mixed variables w.mailboxes) machines
+    fold (λ digest m. stack_mixed digest m.stack) (fold queue_mixed (fold queue_mixed variables w.mailboxes) w.ports) machines

@@ -1,8 +1,8 @@
 -- The system of a program is as is promised of a system.
-use Rattle.std.specs.Prelude.{◌≡◌, ℕ, zero, suc, ◌+◌, ◌<◌, Bool, true, false, not, ◌&&◌, List, [], ◌∷◌, ◌++◌, length, map, filter, is_some, Option, Some, None, option_map, if◌then◌else◌, Contains, refl, slice_get}
+use Rattle.std.specs.Prelude.{◌≡◌, ℕ, zero, suc, ◌<◌, Bool, true, false, not, ◌&&◌, List, [], ◌∷◌, ◌++◌, length, map, filter, is_some, Option, Some, None, option_map, if◌then◌else◌, Contains}
 use Rattle.std.specs.List.{range_with_len}
 use Rattle.std.specs.Option.{option_map_or}
-use Rattle.std.proofs.Common.{ap, sym, ◌∙◌, arith, true≢false}
+use Rattle.std.proofs.Common.{slice_get, refl, ap, sym, ◌∙◌, arith, true≢false}
 use Rattle.std.proofs.lemmas.Bool.{eqb-true}
 use Rattle.std.proofs.lemmas.List.Elements.{Contains-append_left, Contains-append_right, filter_passes}
 use Rattle.std.proofs.lemmas.List.FromFn.{get_or-range_with_len, length-range_with_len}
@@ -18,7 +18,7 @@ use Rattle.cml_hub.specs.Runs.{Run, after_item, is_allowed, next_alarm, has_numb
 use Rattle.cml_hub.proofs.RowLemmas.{row_there}
 use Rattle.cml_search.specs.Systems.{ListsAllowed, IsLawful}
 use Rattle.cml_search.proofs.Places.{mapped_has, place_of}
-use Rattle.cml_verify.specs.Cores.{Core, core_of, run_at, faults_by, can, turns, alarm_of, candidates, program_system}
+use Rattle.cml_verify.specs.Cores.{Past, more, Core, core_of, run_at, done_by, can, turns, alarm_of, candidates, program_system}
 
 -- what passes the test stays
 module _ {X : Type 0} (test : X → Bool) where
@@ -44,9 +44,9 @@ and_first : (a b : Bool) → (a && b) ≡ true → a ≡ true
 and_first true b e = refl
 and_first false b e = e
 
-where_allowed : (n : ℕ) (b : Bool) (o : Option Run) (t : Core) → option_map (core_of n) (if b then o else None) ≡ Some t → b ≡ true
-where_allowed n true o t h = refl
-where_allowed n false o t h = absurd (cc)
+where_allowed : (a : Past) (b : Bool) (o : Option Run) (t : Core) → option_map (core_of a) (if b then o else None) ≡ Some t → b ≡ true
+where_allowed a true o t h = refl
+where_allowed a false o t h = absurd (cc)
 
 -- a thread that runs is there
 runs_there : (ts : List PlainThread) (t : ℕ) (o : Option PlainThread) → slice_get ts t ≡ o → option_map_or runs o false ≡ true → t < length ts
@@ -81,7 +81,7 @@ lists : (p : Program) (c : Core) → ListsAllowed (program_system p) c
 lists p c = record {
   each = filter_passes (can p c) (candidates c.world);
   only = λ i t h.
-      filter_has (can p c) (candidates c.world) i (among c.world i (where_allowed (c.faults + faults_by p (run_at c) i) (is_allowed c.world i) (after_item p (run_at c) i) t h)) (ap is_some h);
+      filter_has (can p c) (candidates c.world) i (among c.world i (where_allowed (more c.past (done_by p (run_at c) i)) (is_allowed c.world i) (after_item p (run_at c) i) t h)) (ap is_some h);
 }
 
 pub is_lawful : (p : Program) → IsLawful (program_system p)

@@ -1,19 +1,22 @@
 -- What is promised of a search of every schedule of a program.
-use Rattle.std.specs.Prelude.{◌≡◌, ℕ, ◌≤◌, true, List, length, map, Option, Some, None, slice_get, Contains}
+use Rattle.std.specs.Prelude.{◌≡◌, ℕ, ◌<◌, ◌≤◌, true, List, length, map, Option, Some, None, IfSome, slice_get, Contains}
 use Rattle.std.specs.List.{All}
+use Rattle.cml_value.specs.Value.{PlainFunction}
 use Rattle.cml_check.specs.Syntax.{PlainItem}
 use Rattle.cml_scan.specs.World.{PlainWorld}
 use Rattle.cml_schedule.specs.declared.item.Item.{Item}
 use Rattle.cml_step.specs.Calls.{text_of}
 use Rattle.cml_step.specs.Machines.{PlainMachine, machine_term}
-use Rattle.cml_step.specs.Terms.{Program}
+use Rattle.cml_step.specs.Terms.{Program, Term}
 use Rattle.cml_hub.specs.Runs.{Run, stands, terminal}
-use Rattle.cml_hub.specs.Deeds.{fault_count}
+use Rattle.cml_hub.specs.Deeds.{origins, fault_count}
 use Rattle.cml_verify.specs.Placed.{AreThreadsIn}
 
--- an end: the world, and how many threads ended at a fault
+-- an end: the world, where each thread stands, with which function it began, and how many threads ended at a fault
 pub record RunEnd : Type 0 where
   pub world : PlainWorld
+  pub terms : List Term
+  pub began : List PlainFunction
   pub faults : ℕ
 
 -- The schedule leads to a run in which nothing is left to do, and so it ends.
@@ -21,26 +24,30 @@ pub record EndsIn (p : Program) (schedule : List Item) (e : RunEnd) : Type 0 whe
   pub run : Run
   pub leads : stands p schedule ≡ Some run
   pub world : run.world ≡ e.world
+  pub terms : run.terms ≡ e.terms
+  pub began : origins p schedule ≡ e.began
   pub faults : fault_count p schedule ≡ e.faults
   pub over : terminal e.world ≡ true
 
--- The schedule ends, and no schedule that ends so has fewer items.
-abbrev pub IsShortestEnd : Program → List Item → Type 0
-IsShortestEnd p schedule = (e : RunEnd) × EndsIn p schedule e × ((others : List Item) → EndsIn p others e → length schedule ≤ length others)
+-- the schedule ends
+abbrev pub HasEnd : Program → List Item → Type 0
+HasEnd p schedule = (e : RunEnd) × EndsIn p schedule e
 
 -- all schedules, or those of at most so many items
 abbrev pub IsWithin : Option ℕ → List Item → Type 0
 IsWithin None schedule = Unit {0}
 IsWithin (Some most) schedule = length schedule ≤ most
 
--- For each schedule (of at most so many items) that ends, one that ends so is among these.
+-- For each schedule (of at most so many items) that ends, one that ends so and has no more items is among these.
 abbrev pub EveryEndIsTold : Program → Option ℕ → List (List Item) → Type 0
-EveryEndIsTold p most told = (schedule : List Item) (e : RunEnd) → IsWithin most schedule → EndsIn p schedule e → (one : List Item) × Contains told one × EndsIn p one e
+EveryEndIsTold p most told = (schedule : List Item) (e : RunEnd) → IsWithin most schedule → EndsIn p schedule e
+    → (one : List Item) × Contains told one × EndsIn p one e × (length one ≤ length schedule)
 
--- a state: the world, where each thread stands in the program, and how many threads ended at a fault
+-- a state: the world, where each thread stands in the program, with which function it began, and how many threads ended at a fault
 pub record RunState : Type 0 where
   pub world : PlainWorld
   pub machines : List PlainMachine
+  pub began : List PlainFunction
   pub faults : ℕ
 
 -- The schedule leads to a run that stands so.
@@ -49,6 +56,7 @@ pub record StandsSo (p : List (PlainItem ℕ)) (schedule : List Item) (s : RunSt
   pub leads : stands (text_of p) schedule ≡ Some run
   pub world : run.world ≡ s.world
   pub terms : run.terms ≡ map (machine_term p) s.machines
+  pub began : origins (text_of p) schedule ≡ s.began
   pub faults : fault_count (text_of p) schedule ≡ s.faults
 
 -- No two of these states are the same. The threads of each stand in the program. A schedule leads to each, and each schedule (of at most so
@@ -63,3 +71,11 @@ pub record AreStates (p : List (PlainItem ℕ)) (most : Option ℕ) (states : Li
 -- There are so many states: all of them, or at least all to which schedules of at most so many items lead.
 abbrev pub CountsStates : List (PlainItem ℕ) → Option ℕ → ℕ → Type 0
 CountsStates p most n = (states : List RunState) × AreStates p most states × (length states ≡ n)
+
+-- What is promised of the schedules that are told, of how many states there are, and of how many items at most the schedules had that were
+-- examined (nothing: all were), where the search stops once it has found more states than its bound.
+pub record IsVerdict (p : List (PlainItem ℕ)) (bound : ℕ) (most : Option ℕ) (told : List (List Item)) (states : ℕ) : Type 0 where
+  pub each : All (HasEnd (text_of p)) told
+  pub all : EveryEndIsTold (text_of p) most told
+  pub stopped : IfSome most (λ m. bound < states)
+  pub counted : CountsStates p most states

@@ -150,5 +150,6 @@ pub(crate) fn digest_of(world: &World, machines: &[Machine]) -> u64
     let ivars = with_variables(threads, world.ivars.as_slice());
     let mvars = with_variables(ivars, world.mvars.as_slice());
     let queues = with_queues(mvars, world.mailboxes.as_slice());
-    with_machines(queues, machines)
+    let messages = with_queues(queues, world.ports.as_slice());
+    with_machines(messages, machines)
 }

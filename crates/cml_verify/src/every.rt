@@ -5,9 +5,9 @@ ghost use Rattle.std.specs.List.{All};
 ghost use Rattle.cml_schedule.specs.declared.item.Item.{Item};
 ghost use Rattle.cml_search.specs.{Systems.{IsReached}, Searches.{IsSearch, IsSought}};
 ghost use Rattle.cml_step.specs.Calls.{text_of};
-ghost use Rattle.cml_verify.specs.{Cores.{Core, program_system}, Ends.{AreSchedulesTo}, Kept.{core_kept}, Placed.{AreThreadsIn}, Verdicts.{IsShortestEnd, IsWithin, EveryEndIsTold, CountsStates}};
+ghost use Rattle.cml_verify.specs.{Cores.{Core, program_system}, Ends.{AreSchedulesTo}, Kept.{core_kept}, Placed.{AreThreadsIn}, Verdicts.{IsWithin, IsVerdict}};
 
-use crate::ends::first_ends;
+use crate::ends::places_of_ends;
 use crate::kept::Kept;
 use crate::placed::are_placed;
 use crate::schedules::Schedules;
@@ -19,7 +19,8 @@ use std::alloc::Global;
 /// What a search of every schedule found.
 #[derive(Drop)]
 pub struct Verdict {
-    /// A shortest schedule to each end: to each world in which nothing is left to do, with as many faults.
+    /// Schedules that end, among them a shortest one to each end: to each world in which nothing is left to do, where threads stand so, began so,
+    /// and as many ended at faults.
     pub ends: Vec<Vec<Item>>,
     /// How many states were found, no two of them the same.
     pub states: usize,
@@ -86,13 +87,10 @@ fn count_of(found: &Found<Kept, Item>) -> usize
 /// Examines every schedule of the program, up to so many states.
 ///
 /// # Errors
-/// Out of memory; or a state can't be kept, which has more than one item in a mailbox, or a multicast channel.
+/// Out of memory; or a thread does not stand in the program, which does not come about.
 pub fn verify(alloc: Global, program: &Prog, bound: usize) -> Result<Verdict, Gap>
     requires { 0 < bound }
-    ensures each { IfOk result (λ v. All (IsShortestEnd (text_of program.now)) (map (λ schedule. schedule.items) v.ends.items)) }
-    ensures all { IfOk result (λ v. EveryEndIsTold (text_of program.now) v.reach (map (λ schedule. schedule.items) v.ends.items)) }
-    ensures bound { IfOk result (λ v. IfSome v.reach (λ most. bound < v.states)) }
-    ensures states { IfOk result (λ v. CountsStates program.now v.reach v.states) }
+    ensures { IfOk result (λ v. IsVerdict program.now bound v.reach (map (λ schedule. schedule.items) v.ends.items) v.states) }
 {
     let again = program.copy()?;
     let system = Schedules { program: again };
@@ -101,7 +99,7 @@ pub fn verify(alloc: Global, program: &Prog, bound: usize) -> Result<Verdict, Ga
     if !all_placed(program, kept) {
         return Err(Gap::Unkept);
     }
-    let places = first_ends(alloc, kept)?;
+    let places = places_of_ends(alloc, kept)?;
     let told = places.as_slice();
     let ends = schedules_to(alloc, &system, &found, told)?;
     let states = count_of(&found);

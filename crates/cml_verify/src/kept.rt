@@ -1,9 +1,10 @@
-//! What is kept of a state: the world, and the machine of each thread.
+//! What is kept of a state: the world, the machine of each thread, and what is known of its turns.
 
-ghost use Rattle.std.specs.Prelude.{◌≡◌, ◌≤◌, ◌↔◌, IfOk, IsTrue, Some, length, slice_get};
+ghost use Rattle.std.specs.Prelude.{◌≡◌, ◌<◌, ◌↔◌, IfOk, IsTrue, Some, length, slice_get};
 ghost use Rattle.std.specs.Hash as fed;
-ghost use Rattle.cml_hub.specs.Runs.{terminal};
-ghost use Rattle.cml_verify.specs.{Sameness.{is_same, is_same_equivalence, is_same_partly, is_same_says}, Digests.{digest_at}, Kept.{PlainKept, state_code, KeepsCourse}, Ends.{SameEnd}};
+ghost use Rattle.cml_hub.specs.{Runs.{terminal}, Deeds.{origins}};
+ghost use Rattle.cml_step.specs.Calls.{text_of};
+ghost use Rattle.cml_verify.specs.{Sameness.{is_same, is_same_equivalence, is_same_partly, is_same_says}, Digests.{digest_at}, Kept.{PlainKept, state_code, KeepsCourse}};
 ghost use Rattle.std.proofs.Common.{ap};
 
 use crate::digest::digest_of;
@@ -11,15 +12,14 @@ use crate::read::read_world;
 use crate::same::{same_all, same_world};
 use cml_hub::{End, Hub};
 use cml_scan::World;
-use cml_search::Gap;
 use cml_step::Machine;
-use cml_value::Tid;
-use std::alloc::Global;
+use cml_value::{FnRef, Tid};
+use std::alloc::{AllocError, Global};
 use std::hash::{Hash, Hasher};
 use std::marker::Model;
 
-/// What is kept of a state: the world, the machine of each thread by its number, and how many threads ended at a fault. The digest of the
-/// world and the machines, by which it is looked up, stands beside them.
+/// What is kept of a state: the world, the machine of each thread by its number, with which function each thread began, and how many ended at a
+/// fault. The digest of the world and the machines, by which it is looked up, stands beside them.
 #[derive(Drop)]
 pub struct Kept {
     digest: u64,
@@ -27,6 +27,7 @@ pub struct Kept {
     ends: bool,
     world: World,
     machines: Vec<Machine>,
+    began: Vec<FnRef>,
     faults: usize,
 }
 
@@ -39,7 +40,7 @@ impl Model for Kept {
 
     ghost coded = { state_code };
 
-    ghost view = { λ k. record { world = k.world; machines = k.machines.items; faults = k.faults } };
+    ghost view = { λ k. record { world = k.world; machines = k.machines.items; began = k.began.items; faults = k.faults } };
 
     ghost invariant = { λ k. (k.ends ≡ terminal k.world) × (k.digest ≡ digest_at k.world k.machines.items) };
 }
@@ -96,17 +97,10 @@ impl Kept {
         if !same_world(&self.world, &other.world) {
             return false;
         }
-        same_all(self.machines.as_slice(), other.machines.as_slice())
-    }
-
-    /// Whether the worlds are the same, and as many threads ended at a fault.
-    pub(crate) fn ends_alike(&self, other: &Kept) -> bool
-        ensures { IsTrue result ↔ SameEnd self.now other.now }
-    {
-        if self.faults != other.faults {
+        if !same_all(self.began.as_slice(), other.began.as_slice()) {
             return false;
         }
-        same_world(&self.world, &other.world)
+        same_all(self.machines.as_slice(), other.machines.as_slice())
     }
 }
 
@@ -122,7 +116,8 @@ fn is_quiet(hub: &Hub) -> bool
 }
 
 // A copy of the machine of a thread.
-fn machine_of(alloc: Global, hub: &Hub, thread: Tid) -> Result<Machine, Gap>
+fn machine_of(alloc: Global, hub: &Hub, thread: Tid) -> Result<Machine, AllocError>
+    requires { thread.0 < length hub.now.course.world.threads }
     ensures { IfOk result (λ machine. slice_get hub.now.course.machines thread.0 ≡ Some machine) }
 {
     match hub.machine(thread) {
@@ -130,45 +125,59 @@ fn machine_of(alloc: Global, hub: &Hub, thread: Tid) -> Result<Machine, Gap>
             let copy = machine.copy(alloc)?;
             Ok(copy)
         }
-        None => Err(Gap::Unkept),
-    }
-}
-
-// Whether there are not more machines than so many.
-fn are_all(hub: &Hub, count: u32) -> bool
-    ensures { IsTrue result → length hub.now.course.machines ≤ count }
-{
-    match hub.machine(Tid(count)) {
-        Some(_) => false,
-        None => true,
+        None => unreachable!(),
     }
 }
 
 // The machines of all threads of a hub.
-fn machines(alloc: Global, hub: &Hub) -> Result<Vec<Machine>, Gap>
+fn machines(alloc: Global, hub: &Hub) -> Result<Vec<Machine>, AllocError>
     ensures { IfOk result (λ machines. machines.items ≡ hub.now.course.machines) }
 {
-    let threads = hub.book().next_thread().0;
+    // No effect: named here so that the prover knows where it leads.
+    let _items = hub.schedule();
     let mut machines = Vec::new(alloc);
-    for t in 0..threads {
+    for t in 0..hub.book().next_thread().0 {
         let machine = machine_of(alloc, hub, Tid(t))?;
         machines.push(machine)?;
-    }
-    if !are_all(hub, threads) {
-        return Err(Gap::Unkept);
     }
     Ok(machines)
 }
 
+// A copy of the function with which a thread began.
+fn origin_of(hub: &Hub, thread: Tid) -> Result<FnRef, AllocError>
+    requires { thread.0 < length (origins (text_of hub.now.course.program) hub.now.course.items) }
+    ensures { IfOk result (λ function. slice_get (origins (text_of hub.now.course.program) hub.now.course.items) thread.0 ≡ Some function) }
+{
+    match hub.origin(thread) {
+        Some(function) => {
+            let copy = function.copy()?;
+            Ok(copy)
+        }
+        None => unreachable!(),
+    }
+}
+
+// The functions with which the threads of a hub began.
+fn all_origins(alloc: Global, hub: &Hub) -> Result<Vec<FnRef>, AllocError>
+    ensures { IfOk result (λ began. began.items ≡ origins (text_of hub.now.course.program) hub.now.course.items) }
+{
+    // No effect: named here so that the prover knows where it leads.
+    let _items = hub.schedule();
+    let mut began = Vec::new(alloc);
+    for t in 0..hub.book().next_thread().0 {
+        let function = origin_of(hub, Tid(t))?;
+        began.push(function)?;
+    }
+    Ok(began)
+}
+
 /// What is kept of where a hub stands.
-pub(crate) fn keep(alloc: Global, hub: &Hub) -> Result<Kept, Gap>
+pub(crate) fn keep(alloc: Global, hub: &Hub) -> Result<Kept, AllocError>
     ensures { IfOk result (λ kept. KeepsCourse hub.now.course kept) }
 {
-    let read = read_world(alloc, hub.book())?;
-    let Some(world) = read else {
-        return Err(Gap::Unkept);
-    };
+    let world = read_world(alloc, hub.book())?;
     let machines = machines(alloc, hub)?;
+    let began = all_origins(alloc, hub)?;
     let digest = digest_of(&world, machines.as_slice());
     let ends = is_quiet(hub);
     let faults = hub.faults();
@@ -177,6 +186,7 @@ pub(crate) fn keep(alloc: Global, hub: &Hub) -> Result<Kept, Gap>
         ends,
         world,
         machines,
+        began,
         faults,
     };
     Ok(kept)

@@ -1,13 +1,13 @@
 //! The world of a book, read into lists.
 
-ghost use Rattle.std.specs.Prelude.{◌≡◌, ◌<◌, IfOk, IfSome, Some, length, map, slice_get};
-ghost use Rattle.cml_scan.specs.Views.{thread_of, nack_of, lists_of};
+ghost use Rattle.std.specs.Prelude.{◌≡◌, ◌<◌, [], IfOk, Some, length, map, slice_get, unwrap_or};
+ghost use Rattle.cml_scan.specs.Views.{thread_of, nack_of, lists_of, port_lists_of};
 ghost use Rattle.cml_book.specs.Holding.{value_at};
 
 use cml_book::Book;
 use cml_index::OfferIndex;
 use cml_scan::{Light, NackState, ThreadState, World};
-use cml_value::{IVarId, MVarId, MboxId, NackId, Tid, Value};
+use cml_value::{IVarId, MVarId, MboxId, McastId, NackId, PortId, Tid, Value};
 use std::alloc::{AllocError, Global};
 
 // What the thread does.
@@ -86,50 +86,145 @@ fn mvars(
     Ok(values)
 }
 
-// The items of a mailbox. A book shows only the first one, so where there are more it can't be said.
-fn queue_of(
+// How many items the mailbox has. One that is not there has none.
+fn mail_count(book: &Book<OfferIndex>, mailbox: MboxId) -> usize
+    ensures { result ≡ length (unwrap_or (slice_get book.now.mailboxes mailbox.0) []) }
+{
+    book.mailbox_len(mailbox).unwrap_or(0)
+}
+
+// Item `n` of the mailbox.
+fn mail_at(book: &Book<OfferIndex>, mailbox: MboxId, n: usize) -> Result<Value, AllocError>
+    requires { n < length (unwrap_or (slice_get book.now.mailboxes mailbox.0) []) }
+    ensures { IfOk result (λ item. slice_get (unwrap_or (slice_get book.now.mailboxes mailbox.0) []) n ≡ Some item) }
+{
+    match book.mailbox_item(mailbox, n) {
+        Some(item) => {
+            let copy = item.copy()?;
+            Ok(copy)
+        }
+        None => unreachable!(),
+    }
+}
+
+// The items of the mailbox.
+fn mail_in(
     alloc: Global,
     book: &Book<OfferIndex>,
     mailbox: MboxId,
-) -> Result<Option<Vec<Value>>, AllocError>
-    ensures { IfOk result (λ read. IfSome read (λ items. slice_get book.now.mailboxes mailbox.0 ≡ Some items.items)) }
+) -> Result<Vec<Value>, AllocError>
+    requires { mailbox.0 < length book.now.mailboxes }
+    ensures { IfOk result (λ items. slice_get book.now.mailboxes mailbox.0 ≡ Some items.items) }
 {
     let mut items = Vec::new(alloc);
-    let Some(len) = book.mailbox_len(mailbox) else {
-        return Ok(None);
-    };
-    if len == 0 {
-        return Ok(Some(items));
+    for n in 0..mail_count(book, mailbox) {
+        let item = mail_at(book, mailbox, n)?;
+        items.push(item)?;
     }
-    if len > 1 {
-        return Ok(None);
-    }
-    let held = held_by(book, Light::Mbox(mailbox))?;
-    let Some(first) = held else {
-        return Ok(None);
-    };
-    items.push(first)?;
-    Ok(Some(items))
+    Ok(items)
 }
 
-// The items of the mailboxes, unless one has more than one.
+// The items of the first so many mailboxes.
 fn mailboxes(
     alloc: Global,
     book: &Book<OfferIndex>,
     count: u32,
-) -> Result<Option<Vec<Vec<Value>>>, AllocError>
+) -> Result<Vec<Vec<Value>>, AllocError>
     requires { count ≡ length book.now.mailboxes }
-    ensures { IfOk result (λ read. IfSome read (λ queues. lists_of queues.items ≡ book.now.mailboxes)) }
+    ensures { IfOk result (λ queues. lists_of queues.items ≡ book.now.mailboxes) }
 {
     let mut queues = Vec::new(alloc);
     for b in 0..count {
-        let read = queue_of(alloc, book, MboxId(b))?;
-        let Some(items) = read else {
-            return Ok(None);
-        };
+        let items = mail_in(alloc, book, MboxId(b))?;
         queues.push(items)?;
     }
-    Ok(Some(queues))
+    Ok(queues)
+}
+
+// How many unread messages the port has. One that is not there has none.
+fn message_count(book: &Book<OfferIndex>, port: PortId) -> usize
+    ensures { result ≡ length (unwrap_or (slice_get book.now.ports port.0) []) }
+{
+    book.port_len(port).unwrap_or(0)
+}
+
+// Unread message `n` of the port.
+fn message_at(book: &Book<OfferIndex>, port: PortId, n: usize) -> Result<Value, AllocError>
+    requires { n < length (unwrap_or (slice_get book.now.ports port.0) []) }
+    ensures { IfOk result (λ message. slice_get (unwrap_or (slice_get book.now.ports port.0) []) n ≡ Some message) }
+{
+    match book.port_item(port, n) {
+        Some(message) => {
+            let copy = message.copy()?;
+            Ok(copy)
+        }
+        None => unreachable!(),
+    }
+}
+
+// The unread messages of the port.
+fn messages_in(
+    alloc: Global,
+    book: &Book<OfferIndex>,
+    port: PortId,
+) -> Result<Vec<Value>, AllocError>
+    requires { port.0 < length book.now.ports }
+    ensures { IfOk result (λ messages. slice_get book.now.ports port.0 ≡ Some messages.items) }
+{
+    let mut messages = Vec::new(alloc);
+    for n in 0..message_count(book, port) {
+        let message = message_at(book, port, n)?;
+        messages.push(message)?;
+    }
+    Ok(messages)
+}
+
+// The unread messages of the first so many ports.
+fn ports(alloc: Global, book: &Book<OfferIndex>, count: u32) -> Result<Vec<Vec<Value>>, AllocError>
+    requires { count ≡ length book.now.ports }
+    ensures { IfOk result (λ queues. lists_of queues.items ≡ book.now.ports) }
+{
+    let mut queues = Vec::new(alloc);
+    for p in 0..count {
+        let messages = messages_in(alloc, book, PortId(p))?;
+        queues.push(messages)?;
+    }
+    Ok(queues)
+}
+
+// The ports of the multicast channel.
+fn ports_of(
+    alloc: Global,
+    book: &Book<OfferIndex>,
+    channel: McastId,
+) -> Result<Vec<PortId>, AllocError>
+    requires { channel.0 < length book.now.mchans }
+    ensures { IfOk result (λ ports. slice_get book.now.mchans channel.0 ≡ Some (map (λ p. p.0) ports.items)) }
+{
+    match book.ports(channel) {
+        Some(ports) => {
+            let copy = Vec::from_slice(alloc, ports)?;
+            Ok(copy)
+        }
+        None => unreachable!(),
+    }
+}
+
+// The ports of the first so many multicast channels.
+fn mchans(
+    alloc: Global,
+    book: &Book<OfferIndex>,
+    count: u32,
+) -> Result<Vec<Vec<PortId>>, AllocError>
+    requires { count ≡ length book.now.mchans }
+    ensures { IfOk result (λ channels. port_lists_of channels.items ≡ book.now.mchans) }
+{
+    let mut channels = Vec::new(alloc);
+    for x in 0..count {
+        let ports = ports_of(alloc, book, McastId(x))?;
+        channels.push(ports)?;
+    }
+    Ok(channels)
 }
 
 // The state of the nack.
@@ -155,35 +250,55 @@ fn nacks(alloc: Global, book: &Book<OfferIndex>) -> Result<Vec<NackState>, Alloc
     Ok(states)
 }
 
-/// The world of the book. A book shows of a mailbox only the first item, and nothing of a multicast channel: where there is more to see,
-/// nothing is read.
-pub(crate) fn read_world(
-    alloc: Global,
-    book: &Book<OfferIndex>,
-) -> Result<Option<World>, AllocError>
-    ensures { IfOk result (λ read. IfSome read (λ w. w ≡ book.now)) }
+// What the variables and the queues hold.
+#[derive(Drop)]
+struct Objects {
+    ivars: Vec<Option<Value>>,
+    mvars: Vec<Option<Value>>,
+    mailboxes: Vec<Vec<Value>>,
+    mchans: Vec<Vec<PortId>>,
+    ports: Vec<Vec<Value>>,
+}
+
+// What the variables and the queues of the book hold.
+fn hold(alloc: Global, book: &Book<OfferIndex>) -> Result<Objects, AllocError>
+    ensures variables { IfOk result (λ held. (held.ivars.items ≡ book.now.ivars) × (held.mvars.items ≡ book.now.mvars)) }
+    ensures queues { IfOk result (λ held. (lists_of held.mailboxes.items ≡ book.now.mailboxes) × (lists_of held.ports.items ≡ book.now.ports)) }
+    ensures channels { IfOk result (λ held. port_lists_of held.mchans.items ≡ book.now.mchans) }
 {
     let next = book.next_objects();
-    if next.mchan.0 > 0 || next.port.0 > 0 {
-        return Ok(None);
-    }
-    let Some(mailboxes) = mailboxes(alloc, book, next.mailbox.0)? else {
-        return Ok(None);
-    };
-    let threads = threads(alloc, book)?;
     let ivars = ivars(alloc, book, next.ivar.0)?;
     let mvars = mvars(alloc, book, next.mvar.0)?;
-    let nacks = nacks(alloc, book)?;
-    Ok(Some(World {
-        threads,
-        channels: next.channel.0,
-        swaps: next.swap.0,
+    let mailboxes = mailboxes(alloc, book, next.mailbox.0)?;
+    let mchans = mchans(alloc, book, next.mchan.0)?;
+    let ports = ports(alloc, book, next.port.0)?;
+    Ok(Objects {
         ivars,
         mvars,
         mailboxes,
-        mchans: Vec::new(alloc),
-        ports: Vec::new(alloc),
+        mchans,
+        ports,
+    })
+}
+
+/// The world of the book.
+pub(crate) fn read_world(alloc: Global, book: &Book<OfferIndex>) -> Result<World, AllocError>
+    ensures { IfOk result (λ w. w ≡ book.now) }
+{
+    let next = book.next_objects();
+    let threads = threads(alloc, book)?;
+    let nacks = nacks(alloc, book)?;
+    let held = hold(alloc, book)?;
+    Ok(World {
+        threads,
+        channels: next.channel.0,
+        swaps: next.swap.0,
+        ivars: held.ivars,
+        mvars: held.mvars,
+        mailboxes: held.mailboxes,
+        mchans: held.mchans,
+        ports: held.ports,
         nacks,
         tick: book.now(),
-    }))
+    })
 }

@@ -1,14 +1,14 @@
 //! Equality of worlds and of machines.
 
 ghost use Rattle.std.specs.Prelude.{◌≡◌, ◌↔◌, IsTrue, ℕ, List, Option, map};
-ghost use Rattle.cml_value.specs.Value.{PlainValue};
+ghost use Rattle.cml_value.specs.Value.{PlainValue, PlainFunction};
 ghost use Rattle.cml_scan.specs.World.{PlainThread, PlainNack};
 ghost use Rattle.cml_scan.specs.Views.{thread_of, nack_of};
 ghost use Rattle.cml_step.specs.Machines.{PlainMachine};
 
 use cml_scan::{NackState, ThreadState, World};
 use cml_step::Machine;
-use cml_value::{PortId, Value};
+use cml_value::{FnRef, PortId, Value};
 
 /// What can be compared with another of its kind.
 pub(crate) trait Same {
@@ -44,6 +44,16 @@ impl Same for Value {
 
     fn same(&self, other: &Value) -> bool {
         Value::same(self, other)
+    }
+}
+
+impl Same for FnRef {
+    ghost Plain = { PlainFunction };
+
+    ghost plain = { λ f. f };
+
+    fn same(&self, other: &FnRef) -> bool {
+        FnRef::same(self, other)
     }
 }
 

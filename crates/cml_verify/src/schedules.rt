@@ -9,9 +9,9 @@ ghost use Rattle.cml_verify.specs.{Cores.{Core, program_system}, Kept.{core_kept
 use crate::allowed::allowed_here;
 use crate::kept::{Kept, keep};
 use cml_check::Prog;
-use cml_hub::{Hub, Item};
+use cml_hub::{Hub, Item, ReplayFault};
 use cml_search::{Gap, System};
-use std::alloc::Global;
+use std::alloc::{AllocError, Global};
 
 /// All schedules of a program.
 #[derive(Drop)]
@@ -19,8 +19,9 @@ pub struct Schedules {
     pub(crate) program: Prog,
 }
 
-// The hub that has gone through a schedule.
-fn hub_after(alloc: Global, program: &Prog, schedule: &[Item]) -> Result<Hub, Gap>
+// The hub that has gone through a schedule that leads somewhere.
+fn hub_after(alloc: Global, program: &Prog, schedule: &[Item]) -> Result<Hub, AllocError>
+    requires { IsSchedule (program_system (text_of program.now)) schedule.now }
     ensures { IfOk result (λ hub. IsAfter program.now schedule.now hub) }
 {
     let again = program.copy()?;
@@ -30,7 +31,8 @@ fn hub_after(alloc: Global, program: &Prog, schedule: &[Item]) -> Result<Hub, Ga
             let _items = hub.schedule();
             Ok(hub)
         }
-        Err(_) => Err(Gap::Memory),
+        Err(ReplayFault::BadItem(_, _)) => unreachable!(),
+        Err(ReplayFault::Memory(_)) => Err(AllocError),
     }
 }
 
@@ -64,12 +66,11 @@ impl System for Schedules {
     fn step(&self, alloc: Global, schedule: &[Item], item: Item) -> Result<Kept, Gap> {
         let mut hub = hub_after(alloc, &self.program, schedule)?;
         let came = hub.follow(alloc, item)?;
-        if came {
-            let kept = keep(alloc, &hub)?;
-            Ok(kept)
-        } else {
-            Err(Gap::Memory)
+        if !came {
+            unreachable!();
         }
+        let kept = keep(alloc, &hub)?;
+        Ok(kept)
     }
 
     ghost same = { kept_same };

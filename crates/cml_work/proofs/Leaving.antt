@@ -1,6 +1,6 @@
 -- How runs end that do not come to their end.
 use Rattle.std.proofs.Common.{◌≡◌, ℕ, List, Bool, true, false, true≢false, Result, Ok, Err, IfErr, length, refl, sym, ap, subst, ◌∙◌}
-use Rattle.cml_monitor.specs.Reports.{PlainReport}
+use Rattle.cml_schedule.specs.Reports.{PlainReport}
 use Rattle.cml_hub.specs.Kept.{Kept}
 use Rattle.cml_stream.specs.Streams.{Stream, Takes}
 use Rattle.cml_work.specs.Marks.{BeginsWith}

@@ -6,7 +6,7 @@ use mathlib.Core.Option.{some, some-ne-none, some-injective}
 use lib.ListN.{get_elem?}
 use Rattle.crossbeam_utils.specs.Register.{Turns, Forks, Merges}
 use Rattle.atomic_table.proofs.Lists.{at_set, at_snoc, set_again}
-use Rattle.cml_monitor.specs.Reports.{PlainReport}
+use Rattle.cml_schedule.specs.Reports.{PlainReport}
 use Rattle.cml_work.specs.declared.marks.Known.{Known}
 use Rattle.cml_work.specs.Marks.{BeginsWith, knower, nobody, shown_all, with_shown, MarksAgree, Learned, PlainMark, IsKeeper, WasShown, known_of, shown_of}
 

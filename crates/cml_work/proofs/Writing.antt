@@ -5,7 +5,7 @@ use Rattle.std.proofs.lemmas.Grind.{flat_map-append}
 use Rattle.std.proofs.KnownBytes.{Appends-nil, Appends-trans}
 use Rattle.std.proofs.Math.Seq.{drop-append_seam, take-length}
 use Rattle.std.proofs.lemmas.List.{take-append-drop, length-drop}
-use Rattle.cml_monitor.specs.Reports.{PlainReport, report_text}
+use Rattle.cml_schedule.specs.Reports.{PlainReport, report_text}
 use Rattle.cml_stream.specs.Streams.{Stream, stream, Takes, TakesStart}
 use Rattle.cml_work.specs.Marks.{BeginsWith}
 use Rattle.cml_work.specs.Seen.{texts_of, BreaksOff, IsSentOut, IsWatched}

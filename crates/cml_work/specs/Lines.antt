@@ -1,6 +1,6 @@
 -- The lines of a report.
 use Rattle.std.specs.Prelude.{ℕ, List, ◌++◌, length, codes}
-use Rattle.cml_monitor.specs.Reports.{PlainReport, wait_line}
+use Rattle.cml_schedule.specs.Reports.{PlainReport, wait_line}
 use Rattle.cml_scan.specs.Numbers.{spaced}
 use Rattle.cml_text.specs.Lines.{line}
 use Rattle.cml_value.specs.declared.number.Tid.{Tid}

@@ -1,7 +1,7 @@
 -- What a watcher writes.
 use Rattle.std.specs.Prelude.{ℕ, List, [], Option, Some, None, Result, Ok, Err}
 use Rattle.std.specs.List.{flat_map}
-use Rattle.cml_monitor.specs.Reports.{PlainReport, report_text}
+use Rattle.cml_schedule.specs.Reports.{PlainReport, report_text}
 use Rattle.cml_stream.specs.Counts.{counted}
 use Rattle.cml_stream.specs.Streams.{Stream, Takes, TakesStart}
 use Rattle.cml_work.specs.Marks.{BeginsWith}

@@ -10,7 +10,7 @@ use crate::fault::{WatchFault, WorkFault};
 use crate::reports::send_reports;
 use crate::started::Started;
 use cml_hub::{Chooser, Hub};
-use cml_monitor::Report;
+use cml_schedule::Report;
 use cml_stream::Counting;
 use cml_stream::input_output::WriteFault;
 use std::alloc::Global;

@@ -1,7 +1,7 @@
 //! Why a run of workers does not end as it should.
 
 use cml_hub::Hub;
-use cml_monitor::Report;
+use cml_schedule::Report;
 use std::alloc::AllocError;
 use std::fmt;
 use thiserror::Error;

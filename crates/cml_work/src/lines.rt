@@ -3,12 +3,12 @@
 ghost use Rattle.std.specs.Prelude.{◌≡◌, ◌+◌, ◌≤◌, ◌++◌};
 ghost use Rattle.arrayvec.specs.ArrayString.{array_string_len};
 ghost use Rattle.cml_work.specs.Lines.{report_head};
-ghost use Rattle.cml_monitor.specs.Reports.{report_row_line, wait_line as wait_text};
+ghost use Rattle.cml_schedule.specs.Reports.{report_row_line, wait_line as wait_text};
 ghost use Rattle.cml_scan.specs.Numbers.{spaced};
 
 use arrayvec::ArrayString;
-use cml_monitor::Report;
 use cml_scan::Meet;
+use cml_schedule::Report;
 use cml_value::Tid;
 use itoa::Buffer;
 

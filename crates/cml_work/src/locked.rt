@@ -10,7 +10,7 @@ use crate::opening::Opening;
 use crate::waiters::{Waiters, turns_after};
 use cml_check::Prog;
 use cml_hub::{Chooser, GiveFault, Hub, Next};
-use cml_monitor::Report;
+use cml_schedule::Report;
 use cml_step::{Machine, Ran};
 use std::alloc::{AllocError, Global};
 use std::marker::{Brand, Model, PhantomData};

@@ -7,7 +7,7 @@ ghost use Rattle.std.specs.Prelude.{◌≡◌, [], IfOk};
 ghost use Rattle.cml_work.specs.Marks.{known_of, shown_of, IsKeeper, WasShown, BeginsWith};
 
 use atomic_table::{Join, Split};
-use cml_monitor::Report;
+use cml_schedule::Report;
 use crossbeam_utils::atomic::seq_cell::{Pass, RuledSeqCell};
 use crossbeam_utils::rule::{Outcome, Protocol};
 use std::alloc::{AllocError, Global};
@@ -37,7 +37,7 @@ impl Protocol<[u64; 1], Known> for Grows {
 /// What the list is now. It has no value at run time.
 pub trait Naming {
     ghost use Rattle.std.specs.Prelude.{List};
-    ghost use Rattle.cml_monitor.specs.Reports.{PlainReport};
+    ghost use Rattle.cml_schedule.specs.Reports.{PlainReport};
 
     /// The list.
     ghost list: { List PlainReport };

@@ -1,13 +1,13 @@
 //! Reports written a line after another. It takes no memory.
 
 ghost use Rattle.std.specs.{Prelude.{◌≡◌}, List.{flat_map}};
-ghost use Rattle.cml_monitor.specs.Reports.{report_row_line, report_text};
+ghost use Rattle.cml_schedule.specs.Reports.{report_row_line, report_text};
 ghost use Rattle.cml_stream.specs.Streams.{stream};
 ghost use Rattle.cml_work.specs.{Lines.{waits_line}, Seen.{texts_of, IsSentOut, failed_with}};
 
 use crate::lines::{head_line, row_line, wait_line};
-use cml_monitor::Report;
 use cml_scan::Meet;
+use cml_schedule::Report;
 use cml_stream::Counting;
 use cml_stream::input_output::{WriteFault, write_out};
 use cml_value::Tid;

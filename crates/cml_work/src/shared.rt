@@ -10,7 +10,7 @@ use crate::marks::{Board, Mark};
 use crate::opening::Opening;
 use cml_check::Prog;
 use cml_hub::{Chooser, GiveFault, Hub};
-use cml_monitor::Report;
+use cml_schedule::Report;
 use cml_step::{Machine, Ran};
 use std::alloc::{AllocError, Global};
 use std::sync::{Condvar, Mutex, MutexGuard, Wait};

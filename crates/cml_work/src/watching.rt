@@ -1,7 +1,7 @@
 //! The watcher.
 
 ghost use Rattle.std.specs.Prelude.{◌≡◌, Some, IfOk, OnErr};
-ghost use Rattle.cml_monitor.specs.Reports.{report_text};
+ghost use Rattle.cml_schedule.specs.Reports.{report_text};
 ghost use Rattle.cml_stream.specs.Streams.{stream, Takes};
 ghost use Rattle.cml_work.specs.{Marks.{BeginsWith, WasShown, shown_of}, Seen.{texts_of, BreaksOff, IsShownText, IsWatched, failed_after, failed_watching}};
 
@@ -11,7 +11,7 @@ use crate::marks::Mark;
 use crate::opening::Opening;
 use crate::shared::Shared;
 use cml_hub::Chooser;
-use cml_monitor::{Report, render};
+use cml_schedule::{Report, render};
 use cml_stream::Counting;
 use cml_stream::input_output::write_out;
 use std::alloc::{AllocError, Global};

@@ -17,7 +17,7 @@ use crate::started::Started;
 use crate::watching::{Watched, watch_marked};
 use crate::working::worker;
 use cml_hub::{Chooser, Hub};
-use cml_monitor::Report;
+use cml_schedule::Report;
 use cml_stream::Counting;
 use std::alloc::Global;
 use std::io::Write;

@@ -7,7 +7,7 @@ ghost use Rattle.cml_hub.specs.Kept.{IsBudget, IsWatch, NoneOut};
 use crate::making::{MEMORY, program_of};
 use crate::ranges::as_budget;
 use cml_hub::{End, First, Hub, Item};
-use cml_monitor::{Report, render};
+use cml_schedule::{Report, render};
 use cml_stream::Counting;
 use cml_value::Tid;
 use cml_work::{Gate, WorkFault, run_watched, run_workers};

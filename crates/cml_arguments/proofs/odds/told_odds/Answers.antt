@@ -3,5 +3,8 @@ use Rattle.cml_arguments.proofs.odds.told_odds.Goals as goal
 pub returns-in-Explore : goal.returns-in-Explore
 returns-in-Explore c = rw c.in-Explore.is c.explore_odds.ensures
 
+pub returns-in-Verify : goal.returns-in-Verify
+returns-in-Verify c = rw c.in-Verify.is c.verify_odds.ensures
+
 pub returns-in-Step : goal.returns-in-Step
 returns-in-Step c = rw c.in-Step.is c.step_odds.ensures

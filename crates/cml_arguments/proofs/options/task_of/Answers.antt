@@ -10,4 +10,4 @@ unreachable-requires-in_default-name c =
     let complete = named_complete found c.in-Some.name.now below (search rules) c.in-Some.ensures.rows c.requires in
     let other = c.in_default-name in
     no_other c.in-Some.name.now (rows_of below) complete other.not-trace other.not-check other.not-fmt other.not-run other.not-replay other.not-explain other.not-explore
-    other.not-shrink other.not-draw other.not-step
+    other.not-verify other.not-shrink other.not-draw other.not-step

@@ -8,11 +8,15 @@ rounds-init g c = record { so_far = c.new-made.ensures.begins c.args.program.now
 
 pub returns-then-last : goal.returns-then-last
 returns-then-last g c =
-    record { few = at_most c.args.program.now c.args.asked.now c.go_beside.new.self (subst (λ b. HasMade c.args.program.now c.args.asked.now b c.go_beside.new.self) c.if-last.true c.in_ok-last.ensures.made) }
+    record {
+      few = at_most c.args.program.now c.args.asked.now c.go_beside.new.self (subst
+          (λ b. HasMade c.args.program.now c.args.asked.now b c.go_beside.new.self) c.if-last.true c.in_ok-last.ensures.made);
+    }
 
 pub rounds-preserved : goal.rounds-preserved
 rounds-preserved g c =
-    let more : HasMade c.args.program.now c.args.asked.now false c.go_beside.new.self = subst (λ b. HasMade c.args.program.now c.args.asked.now b c.go_beside.new.self) c.if-last.false c.in_ok-last.ensures.made in
+    let more : HasMade c.args.program.now c.args.asked.now false c.go_beside.new.self = subst
+    (λ b. HasMade c.args.program.now c.args.asked.now b c.go_beside.new.self) c.if-last.false c.in_ok-last.ensures.made in
     record { so_far = more.0; few = omega (arith, more.1) }
 
 pub returns : goal.returns

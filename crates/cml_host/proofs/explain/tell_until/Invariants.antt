@@ -11,6 +11,6 @@ invariant-loop-count g l = record {
   none_out : NoneOut l.hub;
   knows : Knows l.hub.course l.narrator;
   goes : Goes l.fn.hub l.items l.count l.hub (stream (g.O.Write.contents l.fn.out.stream.now) (g.O.Write.contents l.out.stream.now));
-  fine : l.out.failed ≡ 0;
+  fine : l.out.failed ≡ l.fn.out.failed;
   same : l.out.stream.ghost_name ≡ l.fn.out.stream.ghost_name;
 }

@@ -10,7 +10,7 @@ invariant-runs g l = record {
   so_far : SoFar l.program l.asked l.made;
   few : l.made.runs ≤ l.asked.runs;
   shows : ShowsMarks l.shows (stream (g.E.Write.contents l.fn.err.stream.now) (g.E.Write.contents l.err.stream.now));
-  fine : l.err.failed ≡ 0;
+  fine : l.err.failed ≡ l.fn.err.failed;
   same : l.err.stream.ghost_name ≡ l.fn.err.stream.ghost_name;
 }
 

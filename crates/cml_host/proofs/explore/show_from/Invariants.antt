@@ -7,6 +7,6 @@ use Rattle.cml_host.proofs.explore.show_from.Given as goal
 abbrev pub invariant-loop-made : goal.invariant-loop-made
 invariant-loop-made g l = record {
   wrote : Writes (stream (g.E.Write.contents l.fn.err.stream.now) (g.E.Write.contents l.err.stream.now));
-  fine : l.err.failed ≡ 0;
+  fine : l.err.failed ≡ l.fn.err.failed;
   same : l.err.stream.ghost_name ≡ l.fn.err.stream.ghost_name;
 }

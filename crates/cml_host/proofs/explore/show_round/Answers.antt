@@ -1,3 +1,4 @@
+use Rattle.std.proofs.Common.{refl}
 use Rattle.std.proofs.lemmas.Result.{IfErr-weaker, on_ok_weaker}
 use Rattle.cml_host.proofs.ExploringLemmas.{shows_none, shows_words}
 use Rattle.cml_host.proofs.explore.show_round.Goals as goal
@@ -15,4 +16,4 @@ returns-then-shows-clause-err g c =
     c.show_from.ensures.err
 
 pub returns-else-shows-clause-ok : goal.returns-else-shows-clause-ok
-returns-else-shows-clause-ok g c = (shows_none c.args.shows (g.E.Write.contents c.args.err.now.stream.now), c.requires.fresh)
+returns-else-shows-clause-ok g c = (shows_none c.args.shows (g.E.Write.contents c.args.err.now.stream.now), refl)

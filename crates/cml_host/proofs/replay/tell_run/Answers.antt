@@ -1,26 +1,27 @@
-use Rattle.std.proofs.Common.{inl, inr}
-use Rattle.cml_stream.specs.Streams.{counted_stream}
+use Rattle.std.proofs.Common.{List, ℕ, subst}
+use Rattle.cml_schedule.specs.Reports.{PlainReport}
 use Rattle.cml_host.specs.Closed.{plain_asked}
-use Rattle.cml_host.proofs.ClosedLemmas.{closed_hub}
+use Rattle.cml_host.specs.Replies.{IsCarriedOut, moment, passage, plain_reply}
+use Rattle.cml_host.specs.Stores.{Shelf}
+use Rattle.cml_host.specs.Told.{AreCut, AreTold}
+use Rattle.cml_host.proofs.ClosedLemmas.{replay_cut, replay_told}
 use Rattle.cml_host.proofs.replay.tell_run.Goals as goal
 
-pub returns-in-Ok-tell-clause-told : goal.returns-in-Ok-tell-clause-told
-returns-in-Ok-tell-clause-told g c =
-    let a = g.E.Write.contents c.args.err.now.stream.now in
-    let b = g.E.Write.contents c.tell.new.err.stream.now in
-    let d = g.E.Write.contents c.say_end.new.err.stream.now in
-    let output = counted_stream (g.O.Write.contents c.args.out.now.stream.now) (g.O.Write.contents c.tell.new.out.stream.now) c.tell.new.out.calls c.tell.new.out.failed in
-    let h = c.args.hub.now in (
-      c.hub_is_a_run.ensures,
-      inl (
-          closed_hub (plain_asked c.args.asked.now) h c.in-Ok.closing h.reports output a b d
-          c.tell.new.err.calls c.tell.new.err.failed c.say_end.new.err.calls c.say_end.new.err.failed c.say_end.result
-          c.in-Ok.ensures c.in-Ok-tell.ensures.told c.say_end.ensures.said c.say_end.ensures.status
-          ),
-    )
+pub returns-in-Ok-clause-told : goal.returns-in-Ok-clause-told
+returns-in-Ok-clause-told g c =
+    let h = c.args.hub.now in
+    let mid = moment g.E.Write.contents c.send_reports.new.err in
+    let output = passage g.O.Write.contents c.args.out.now c.carry_out.new.out in
+    let rest = passage g.E.Write.contents c.send_reports.new.err c.carry_out.new.err in
+    let store : Shelf = record { before = g.S.Store.holds c.args.store.now; after = g.S.Store.holds c.carry_out.new.store } in
+    let sent = passage g.E.Write.contents c.args.err.now c.send_reports.new.err in
+    replay_told (plain_asked c.args.asked.now) h c.closed-made.result output (passage g.E.Write.contents c.args.err.now c.carry_out.new.err) mid store c.carry_out.result
+    c.hub_is_a_run.ensures (subst (λ (rs : List PlainReport). AreTold rs sent) c.reports.ensures.reports c.in-Ok.ensures.sent) c.closed-made.ensures.ok c.closed-made.ensures.err
+    (subst (λ (so_far : List ℕ). IsCarriedOut (plain_reply so_far c.closed-made.result) output rest store c.carry_out.result) c.out.ensures c.carry_out.ensures.carried)
 
-pub returns-in_default-clause-told : goal.returns-in_default-clause-told
-returns-in_default-clause-told g c = (c.hub_is_a_run.ensures, inr (inr c.cut_run.ensures.told))
-
-pub returns-clause-told : goal.returns-clause-told
-returns-clause-told g c = (c.hub_is_a_run.ensures, inr c.in-Err.ensures.not_told)
+pub returns-in-Err-clause-told : goal.returns-in-Err-clause-told
+returns-in-Err-clause-told g c =
+    let sent = passage g.E.Write.contents c.args.err.now c.send_reports.new.err in
+    let errors = passage g.E.Write.contents c.args.err.now c.carry_out-in-Err.new.err in
+    replay_cut (plain_asked c.args.asked.now) c.args.hub.now _ errors (moment g.E.Write.contents c.send_reports.new.err) _ _ c.hub_is_a_run.ensures
+    (subst (λ (rs : List PlainReport). AreCut rs sent) c.reports.ensures.reports c.in-Err.ensures.sent) c.carry_out-in-Err.ensures.carried

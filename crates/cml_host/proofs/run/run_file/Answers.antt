@@ -1,17 +1,15 @@
-use Rattle.std.proofs.Common.{rules, inl, inr}
-use Rattle.cml_stream.specs.Streams.{counted_stream}
+use Rattle.std.proofs.Common.{inl, inr}
+use Rattle.cml_host.specs.Replies.{RefusalOf, Replies, passage}
 use Rattle.cml_host.specs.Running.{ScriptOutcome}
 use Rattle.cml_host.specs.Scripts.{IsNoScript, plain_script}
 use Rattle.cml_host.proofs.ClosedLemmas.{store_behind}
-use Rattle.cml_host.proofs.RefusedLemmas.{refused_by}
+use Rattle.cml_host.proofs.ReplyLemmas.{refused}
 use Rattle.cml_host.proofs.run.run_file.Goals as goal
 
 pub returns-in-Ok-clause-ran : goal.returns-in-Ok-clause-ran
 returns-in-Ok-clause-ran g c =
-    let output = counted_stream (g.O.Write.contents c.args.out.now.stream.now) (g.O.Write.contents c.run_script.new.out.stream.now)
-    c.run_script.new.out.calls c.run_script.new.out.failed in
-    let errors = counted_stream (g.E.Write.contents c.args.err.now.stream.now) (g.E.Write.contents c.run_script.new.err.stream.now)
-    c.run_script.new.err.calls c.run_script.new.err.failed in
+    let output = passage g.O.Write.contents c.args.out.now c.run_script.new.out in
+    let errors = passage g.E.Write.contents c.args.err.now c.run_script.new.err in
     let s = plain_script c.in-Ok.script in
     inl (
       s,
@@ -22,8 +20,12 @@ returns-in-Ok-clause-ran g c =
 
 pub returns-in-Err-clause-ran : goal.returns-in-Err-clause-ran
 returns-in-Err-clause-ran g c =
+    let output = passage g.O.Write.contents c.args.out.now c.carry_out.new.out in
+    let errors = passage g.E.Write.contents c.args.err.now c.carry_out.new.err in
     let file = c.args.options.now.file.now in
+    let wrong = IsNoScript c.args.explains file (g.S.Store.holds c.args.store.now file) in
     inr (
-      refused_by (IsNoScript c.args.explains file (g.S.Store.holds c.args.store.now file)) c.in-Err.why _ c.refuse.result c.in-Err.ensures.err c.refuse.ensures.refused,
-      ((search rules, c.requires.fresh.0, c.requires.fresh.1), c.open_script.ensures.same),
+    store_behind (λ store. Replies (RefusalOf wrong) output errors store c.carry_out.result) (g.S.Store.holds c.args.store.now)
+    (g.S.Store.holds c.open_script.new.store) (g.S.Store.holds c.carry_out.new.store) c.open_script.ensures.same
+    (refused wrong c.in-Err.why output errors _ c.carry_out.result c.in-Err.ensures.err c.carry_out.ensures.carried)
     )

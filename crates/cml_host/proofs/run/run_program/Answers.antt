@@ -1,7 +1,7 @@
-use Rattle.std.proofs.Common.{List, ℕ, inl, inr, refl, rules, subst}
+use Rattle.std.proofs.Common.{List, [], ℕ, inl, inr, refl, subst}
 use Rattle.cml_check.specs.Syntax.{PlainItem}
-use Rattle.cml_stream.specs.Streams.{counted_stream}
 use Rattle.cml_host.specs.Closed.{plain_asked}
+use Rattle.cml_host.specs.Replies.{passage, runs_out}
 use Rattle.cml_host.specs.Running.{ProgramOutcome, plain_saving}
 use Rattle.cml_host.specs.Stores.{Shelf}
 use Rattle.cml_host.proofs.ClosedLemmas.{starts_itself}
@@ -12,12 +12,12 @@ run_begun-requires-clause-begun g c κs within = starts_itself c.args.program _ 
 
 pub returns-in-Ok-clause-ran : goal.returns-in-Ok-clause-ran
 returns-in-Ok-clause-ran g c =
-    let output = counted_stream (g.O.Write.contents c.args.out.now.stream.now) (g.O.Write.contents c.run_begun.new.out.stream.now) c.run_begun.new.out.calls c.run_begun.new.out.failed in
-    let errors = counted_stream (g.E.Write.contents c.args.err.now.stream.now) (g.E.Write.contents c.run_begun.new.err.stream.now) c.run_begun.new.err.calls c.run_begun.new.err.failed in
+    let output = passage g.O.Write.contents c.args.out.now c.run_begun.new.out in
+    let errors = passage g.E.Write.contents c.args.err.now c.run_begun.new.err in
     let store : Shelf = record { before = g.S.Store.holds c.args.store.now; after = g.S.Store.holds c.run_begun.new.store } in
     inl (subst (λ (p : List (PlainItem ℕ)). ProgramOutcome (plain_asked c.args.asked.now)
     (plain_saving c.args.saving.now) p c.args.options.now output errors store c.run_begun.result)
     c.in-Ok.ensures.ok.program c.run_begun.ensures.ran)
 
 pub returns-in-Err-clause-ran : goal.returns-in-Err-clause-ran
-returns-in-Err-clause-ran g c = inr (c.refuse.ensures.refused, ((search rules, c.requires.fresh.0, c.requires.fresh.1), λ name. refl))
+returns-in-Err-clause-ran g c = inr (runs_out [], refl, c.carry_out.ensures.carried)

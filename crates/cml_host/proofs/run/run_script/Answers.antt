@@ -1,20 +1,19 @@
-use Rattle.std.proofs.Common.{◌≡◌, ◌∙◌, Bor, List, ℕ, None, ap, inr, is_some, map, refl, rules, subst}
-use Rattle.cml_stream.specs.Streams.{counted_stream}
+use Rattle.std.proofs.Common.{◌≡◌, ◌∙◌, Bor, List, ℕ, None, ap, inr, is_some, map, subst}
 use Rattle.cml_host.specs.Closed.{plain_asked}
+use Rattle.cml_host.specs.Replies.{RefusalOf, Replies, passage}
 use Rattle.cml_host.specs.Running.{plain_saving}
 use Rattle.cml_host.specs.Scripts.{plain_script}
-use Rattle.cml_host.specs.Refused.{RefusedBy}
 use Rattle.cml_host.specs.Servers.{IsNoFunction, first_unknown, server_numbers}
 use Rattle.cml_host.specs.Stores.{Shelf}
 use Rattle.cml_host.proofs.PictureLemmas.{saving_asked}
 use Rattle.cml_host.proofs.RanLemmas.{opened_ran}
-use Rattle.cml_host.proofs.RefusedLemmas.{refused_by}
+use Rattle.cml_host.proofs.ReplyLemmas.{refused}
 use Rattle.cml_host.proofs.run.run_script.Goals as goal
 
 pub returns-in-Ok-clause-ran : goal.returns-in-Ok-clause-ran
 returns-in-Ok-clause-ran g c =
-    let output = counted_stream (g.O.Write.contents c.args.out.now.stream.now) (g.O.Write.contents c.run_program.new.out.stream.now) c.run_program.new.out.calls c.run_program.new.out.failed in
-    let errors = counted_stream (g.E.Write.contents c.args.err.now.stream.now) (g.E.Write.contents c.run_program.new.err.stream.now) c.run_program.new.err.calls c.run_program.new.err.failed in
+    let output = passage g.O.Write.contents c.args.out.now c.run_program.new.out in
+    let errors = passage g.E.Write.contents c.args.err.now c.run_program.new.err in
     let store : Shelf = record { before = g.S.Store.holds c.args.store.now; after = g.S.Store.holds c.run_program.new.store } in
     let s = plain_script c.args.script in
     let saving = plain_saving c.saving_for-saving.result in
@@ -28,10 +27,11 @@ returns-in-Ok-clause-ran g c =
 
 pub returns-in-Err-clause-ran : goal.returns-in-Err-clause-ran
 returns-in-Err-clause-ran g c =
+    let output = passage g.O.Write.contents c.args.out.now c.carry_out.new.out in
+    let errors = passage g.E.Write.contents c.args.err.now c.carry_out.new.err in
+    let store : Shelf = record { before = g.S.Store.holds c.args.store.now; after = g.S.Store.holds c.carry_out.new.store } in
     let s = plain_script c.args.script in
     inr (
-      subst (λ (ns : List (Bor (List ℕ))). RefusedBy (IsNoFunction s (map (λ name. name.now) ns))
-          (counted_stream (g.E.Write.contents c.args.err.now.stream.now) (g.E.Write.contents c.refuse.new.err.stream.now) c.refuse.new.err.calls c.refuse.new.err.failed) c.refuse.result)
-          c.as_slice.ensures.value (refused_by (IsNoFunction s (map (λ name. name.now) c.as_slice.result.now)) c.in-Err.why _ c.refuse.result c.in-Err.ensures.err c.refuse.ensures.refused),
-      ((search rules, c.requires.fresh.0, c.requires.fresh.1), λ name. refl),
+    subst (λ (ns : List (Bor (List ℕ))). Replies (RefusalOf (IsNoFunction s (map (λ name. name.now) ns))) output errors store c.carry_out.result) c.as_slice.ensures.value
+    (refused (IsNoFunction s (map (λ name. name.now) c.as_slice.result.now)) c.in-Err.why output errors store c.carry_out.result c.in-Err.ensures.err c.carry_out.ensures.carried)
     )

@@ -1,5 +1,5 @@
 use Rattle.std.proofs.Common.{List, subst}
-use Rattle.cml_monitor.specs.Reports.{PlainReport}
+use Rattle.cml_schedule.specs.Reports.{PlainReport}
 use Rattle.cml_stream.specs.Streams.{stream, Takes}
 use Rattle.cml_host.specs.Told.{reports_text}
 use Rattle.cml_host.proofs.WorkLemmas.{all_told}

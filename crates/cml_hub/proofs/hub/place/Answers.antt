@@ -1,6 +1,6 @@
 use Rattle.std.proofs.Common.{◌≡◌, length, refl, sym, ◌∙◌}
 use Rattle.std.proofs.lemmas.List.{append-nil}
-use Rattle.cml_hub.specs.declared.marks.Mark.TheVariants.{Ready, NotRunning}
+use Rattle.cml_hub.specs.declared.ready_queue.Mark.TheVariants.{Ready, NotRunning}
 use Rattle.cml_hub.proofs.Standing.{set_again}
 use Rattle.cml_hub.proofs.Marking.{there_away, pushed_away, set_pushed, marks_length}
 use Rattle.cml_hub.specs.ReadyQueue.{left_by}

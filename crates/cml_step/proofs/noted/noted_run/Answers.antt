@@ -29,7 +29,8 @@ loop-done-preserved c =
 pub returns-then-not-noted_step-clause-fits : goal.returns-then-not-noted_step-clause-fits
 returns-then-not-noted_step-clause-fits c =
     let f = c.function-f.result.now in
-    moved_fits c.args.program.now f c.args.call.now c.noted_step.new.call c.requires.fits.there c.function-f.ensures.found (c.noted_step.ensures.kept.same ∙ c.loop-done.invariant.noted.func) c.noted_step.ensures.kept.agree
+    moved_fits c.args.program.now f c.args.call.now c.noted_step.new.call c.requires.fits.there c.function-f.ensures.found (c.noted_step.ensures.kept.same ∙
+    c.loop-done.invariant.noted.func) c.noted_step.ensures.kept.agree
     (subst (λ w. WaitFits w (length f.names) (length c.noted_step.new.call.slots.items)) (sym c.noted_step.ensures.kept.runs) tt)
 
 pub returns-then-not-noted_step-clause-goes : goal.returns-then-not-noted_step-clause-goes

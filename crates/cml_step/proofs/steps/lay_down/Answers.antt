@@ -24,22 +24,5 @@ loop-call-preserved c =
           (laid_fits p left call hs (subst (λ (cs : List Call). EachBeneath p hs × AllCallsFit p (reverse cs)) c.in-Some.ensures.items (c.loop-call.invariant.fits p beneath fit)));
     }
 
-pub loop-call-preserved-in_ok-more : goal.loop-call-preserved-in_ok-more
-loop-call-preserved-in_ok-more c =
-    let left = c.pop.new.self.items in
-    let call = c.in-Some.call in
-    let hs = c.loop-call.below in
-    let more : c.in_ok-more.more ≡ hs ++ plain_held (entry.Call call) ∷ [] = c.in_ok-more.ensures ∙ ap (λ all. all ++ plain_held (entry.Call call) ∷ []) c.replace-all.ensures.value in
-    record {
-      term = λ p.
-          ap (λ all. calls_on p (reverse left) (term_of p all)) more
-          ∙ sym (laid_term p left call hs)
-          ∙ ap (λ cs. calls_on p (reverse cs) (term_of p hs)) (sym c.in-Some.ensures.items)
-          ∙ c.loop-call.invariant.term p;
-      fits = λ p beneath fit.
-          subst (λ (all : List PlainHeld). EachBeneath p all × AllCallsFit p (reverse left)) (sym more)
-          (laid_fits p left call hs (subst (λ (cs : List Call). EachBeneath p hs × AllCallsFit p (reverse cs)) c.in-Some.ensures.items (c.loop-call.invariant.fits p beneath fit)));
-    }
-
 pub returns-clause-fits : goal.returns-clause-fits
 returns-clause-fits c = λ p beneath fit. (c.loop-call.invariant.fits p beneath fit).0

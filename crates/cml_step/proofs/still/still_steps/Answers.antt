@@ -23,7 +23,8 @@ returns-clause-goes c = λ self.
     let b = c.noted_run-set.new.call in
     let n = c.in_ok-first.first in
     let m = c.noted_run-set.result in
-    goes_then (text_of p) self (n + m) c.put_over-put.result (term_of p (stood hs c.args.call.now c.args.over.now)) (term_of p (stood hs b a.over)) (term_of p (stood hs c.put_over-put.new.call c.put_over-put.new.over))
+    goes_then (text_of p) self (n + m) c.put_over-put.result (term_of p (stood hs c.args.call.now c.args.over.now)) (term_of p (stood hs b a.over)) (term_of p
+    (stood hs c.put_over-put.new.call c.put_over-put.new.over))
     (goes_then (text_of p) self n m (term_of p (stood hs c.args.call.now c.args.over.now)) (term_of p (stood hs a.call a.over)) (term_of p (stood hs b a.over))
     (c.in_ok-first.ensures.goes.1 self) (run_in p self m hs a.call b a.over c.in_ok-first.ensures.none (c.noted_run-set.ensures.goes self)))
     (c.put_over-put.ensures.goes self)
@@ -33,5 +34,6 @@ returns-clause-undone c =
     let a = c.begin_noted.new.journal in
     let head = c.in_ok-first.ensures.head.0 in
     let j : Journal = record { at = a.at; wait = a.wait; asked = a.asked; count = a.count; sets = c.noted_run-set.new.sets; over = a.over; forced = a.forced } in
-    before_same c.args.below.now j c.args.call.now c.noted_run-set.new.call c.put_over-put.new.call c.args.over.now (record { at = head.at; wait = head.wait; count = head.count }) c.in_ok-first.ensures.head.1
+    before_same c.args.below.now j c.args.call.now c.noted_run-set.new.call c.put_over-put.new.call c.args.over.now
+    (record { at = head.at; wait = head.wait; count = head.count }) c.in_ok-first.ensures.head.1
     (noted_on c.in_ok-first.ensures.noted c.noted_run-set.ensures.noted) c.put_over-put.ensures.had

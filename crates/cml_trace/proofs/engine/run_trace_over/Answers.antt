@@ -1,15 +1,22 @@
-use Rattle.std.proofs.Common.{◌<◌, length, arith}
-use Rattle.cml_trace.specs.Answers.{max_input}
+use Rattle.std.proofs.Common.{rules, ◌≡◌, ℕ, List, sym, subst}
 use Rattle.cml_stream.specs.Streams.{stream}
 use Rattle.cml_trace.specs.Runs.{Came}
-use Rattle.cml_trace.proofs.EngineLemmas.{begun_long, broken_write}
+use Rattle.cml_trace.proofs.EngineLemmas.{broken}
 use Rattle.cml_trace.proofs.engine.run_trace_over.Goals as goal
 
-pub returns-in_err-write_out-clause-err : goal.returns-in_err-write_out-clause-err
-returns-in_err-write_out-clause-err g c =
-    let long : max_input < length c.in_ok-input.input.items = omega (arith, c.len.ensures, c.if-len-gt-MAX_INPUT.true) in
+pub returns-clause-ok : goal.returns-clause-ok
+returns-clause-ok g c =
     let input = stream (g.R.Read.remaining c.args.reader.now.stream.now) (g.R.Read.remaining c.read_all.new.reader.stream.now) in
-    let output = stream (g.W.Write.contents c.args.writer.now.stream.now) (g.W.Write.contents c.write_out.new.out.stream.now) in
-    let came : Came input c.in_ok-input.input.items = record { given = c.in_ok-input.ensures.bytes; whole = c.in_ok-input.ensures.end } in
-    broken_write c.from_residual-in_err-write_out.result input output c.from_residual-in_err-write_out.ensures.1
-    (begun_long input output c.in_ok-input.input.items c.in_err-write_out.ensures.err.0 came long c.in_err-write_out.ensures.err.1)
+    let same : c.as_slice.result.now ≡ c.in_ok-input.input.items = search rules in
+    let all : Came input c.in_ok-input.input.items = record { given = c.in_ok-input.ensures.bytes; whole = c.in_ok-input.ensures.end } in
+    let came = subst (λ (bytes : List ℕ). Came input bytes) (sym same) all in
+    c.answer-result.ensures.ok input came
+
+pub returns-clause-err : goal.returns-clause-err
+returns-clause-err g c =
+    let input = stream (g.R.Read.remaining c.args.reader.now.stream.now) (g.R.Read.remaining c.read_all.new.reader.stream.now) in
+    let output = stream (g.W.Write.contents c.args.writer.now.stream.now) (g.W.Write.contents c.answer-result.new.writer.stream.now) in
+    let same : c.as_slice.result.now ≡ c.in_ok-input.input.items = search rules in
+    let all : Came input c.in_ok-input.input.items = record { given = c.in_ok-input.ensures.bytes; whole = c.in_ok-input.ensures.end } in
+    let came = subst (λ (bytes : List ℕ). Came input bytes) (sym same) all in
+    broken c.answer-result.result input output c.answer-result.new.writer.failed c.answer-result.ensures.failed (c.answer-result.ensures.err input came)

@@ -4,14 +4,10 @@ use Rattle.cml_verify.specs.Digests.{digest_at}
 use Rattle.cml_verify.proofs.kept.keep.Goals as goal
 
 pub returns : goal.returns
-returns c = record {
-  world = (rw c.in-Some.is at c.in_ok-read.ensures) ∙ c.book.ensures;
-  machines = c.in_ok-machines.ensures;
-  faults = c.faults-faults.ensures;
-}
+returns c = record { world = c.in_ok-world.ensures ∙ c.book.ensures; machines = c.in_ok-machines.ensures; began = c.in_ok-began.ensures; faults = c.faults-faults.ensures }
 
 pub invariant_of-kept : goal.invariant_of-kept
 invariant_of-kept c = (
-  c.is_quiet-ends.ensures ∙ ap terminal (sym ((rw c.in-Some.is at c.in_ok-read.ensures) ∙ c.book.ensures)),
-  c.digest_of-digest.ensures ∙ ap (digest_at c.in-Some.world) c.as_slice.ensures.value,
+  c.is_quiet-ends.ensures ∙ ap terminal (sym (c.in_ok-world.ensures ∙ c.book.ensures)),
+  c.digest_of-digest.ensures ∙ ap (digest_at c.in_ok-world.world) c.as_slice.ensures.value,
 )

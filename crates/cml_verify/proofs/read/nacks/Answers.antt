@@ -5,7 +5,8 @@ use Rattle.cml_verify.proofs.read.nacks.Goals as goal
 
 pub loop-k-preserved : goal.loop-k-preserved
 loop-k-preserved c =
-    mapped_next nack_of c.loop-k.states.items c.push.new.self.items c.state_of_nack-state.result c.args.book.now.nacks c.loop-k.k c.in_ok-push.ensures.items c.loop-k.invariant c.state_of_nack-state.ensures
+    mapped_next nack_of c.loop-k.states.items c.push.new.self.items c.state_of_nack-state.result c.args.book.now.nacks c.loop-k.k c.in_ok-push.ensures.items
+    c.loop-k.invariant c.state_of_nack-state.ensures
 
 pub returns : goal.returns
 returns c = c.loop-k.invariant ∙ take_all c.loop-k.k c.args.book.now.nacks (omega arith)

@@ -1,6 +1,8 @@
-use Rattle.std.proofs.Common.{◌∙◌}
+use Rattle.std.proofs.Common.{◌≡◌, None, ◌∙◌, rules}
+use Rattle.cml_step.specs.Calls.{text_of}
 use Rattle.cml_hub.specs.Courses.{run_of}
-use Rattle.cml_verify.proofs.Stepping.{leads_as}
+use Rattle.cml_hub.specs.Runs.{stands}
+use Rattle.cml_verify.proofs.Stepping.{leads_as, leads_nowhere}
 use Rattle.cml_verify.proofs.schedules.hub_after.Goals as goal
 
 pub returns-in-Ok : goal.returns-in-Ok
@@ -14,3 +16,8 @@ returns-in-Ok c =
       none_out = r.none_out;
       leads = leads_as k.program c.args.program.now k.items c.args.schedule.now (run_of k) of r.items_are c.schedule-items.ensures.leads;
     }
+
+pub unreachable-requires : goal.unreachable-requires
+unreachable-requires c =
+    let none : stands (text_of c.in_ok-again.again) c.args.schedule.now ≡ None = search rules in
+    leads_nowhere c.in_ok-again.again c.args.program.now c.args.schedule.now c.in_ok-again.ensures none c.requires

@@ -1,5 +1,5 @@
 use Rattle.std.proofs.Common.{◌-◌, List, take, drop, length, subst}
-use Rattle.cml_monitor.specs.Reports.{PlainReport}
+use Rattle.cml_schedule.specs.Reports.{PlainReport}
 use Rattle.cml_stream.specs.Streams.{stream}
 use Rattle.cml_work.specs.Seen.{texts_of, IsSentOut}
 use Rattle.cml_work.proofs.Writing.{sent_rest}

@@ -2,7 +2,7 @@ use Rattle.std.proofs.Common.{rules, ◌≡◌, ◌∙◌, ◌++◌, ℕ, List, 
 use Rattle.std.specs.List.{flat_map}
 use Rattle.std.proofs.KnownBytes.{Appends-trans}
 use Rattle.std.proofs.lemmas.List.Folds.{flat_map-map}
-use Rattle.cml_monitor.specs.Reports.{report_row_line, wait_line}
+use Rattle.cml_schedule.specs.Reports.{report_row_line, wait_line}
 use Rattle.cml_stream.specs.Streams.{stream, Takes, TakesStart}
 use Rattle.cml_work.specs.Lines.{report_head, waits_line}
 use Rattle.cml_work.specs.Seen.{IsSentOut}

@@ -1,5 +1,5 @@
 use Rattle.std.proofs.Common.{rules, ◌≡◌, ◌∙◌, Err}
-use Rattle.cml_monitor.specs.Reports.{report_row_line}
+use Rattle.cml_schedule.specs.Reports.{report_row_line}
 use Rattle.cml_work.proofs.Sending.{lines_behind, lines_ended}
 use Rattle.cml_work.proofs.reports.send_rows.Goals as goal
 

@@ -1,6 +1,6 @@
 use Rattle.std.proofs.Common.{◌≡◌, take}
 use Rattle.std.specs.List.{flat_map}
-use Rattle.cml_monitor.specs.Reports.{report_row_line}
+use Rattle.cml_schedule.specs.Reports.{report_row_line}
 use Rattle.cml_stream.specs.Streams.{stream, Takes}
 use Rattle.cml_work.proofs.reports.send_rows.Given as goal
 

@@ -1,5 +1,5 @@
 use Rattle.std.proofs.Common.{◌∙◌}
-use Rattle.cml_monitor.specs.Reports.{report_text}
+use Rattle.cml_schedule.specs.Reports.{report_text}
 use Rattle.cml_work.proofs.Writing.{starts_with}
 use Rattle.cml_work.proofs.watching.show.Goals as goal
 

@@ -1,7 +1,7 @@
 use Rattle.std.proofs.Common.{◌≡◌, ℕ, arith, Some, List, refl, sym, subst, ◌∙◌}
 use Rattle.std.specs.Prelude.{slice_get, length}
 use Rattle.std.proofs.KnownBytes.{Appends-nil}
-use Rattle.cml_monitor.specs.Reports.{PlainReport}
+use Rattle.cml_schedule.specs.Reports.{PlainReport}
 use Rattle.cml_work.specs.Marks.{BeginsWith, shown_of}
 use Rattle.cml_work.specs.Seen.{texts_of}
 use Rattle.cml_work.proofs.MarkSteps.{begins_trans, begins_next}

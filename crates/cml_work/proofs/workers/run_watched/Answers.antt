@@ -1,6 +1,6 @@
 use Rattle.std.proofs.Common.{rules, List, ◌++◌, ap, sym}
 use Rattle.std.proofs.lemmas.Result.{IfErr-weaker}
-use Rattle.cml_monitor.specs.Reports.{PlainReport}
+use Rattle.cml_schedule.specs.Reports.{PlainReport}
 use Rattle.cml_work.specs.Works.{IsWorkerCount}
 use Rattle.cml_work.proofs.Leaving.{cut_fails, breaks_fail}
 use Rattle.cml_work.proofs.Writing.{none_seen}

@@ -29,7 +29,8 @@ loop-wait-preserved c =
       done = one_more (stands.HasCome c.args.tid) (come_twice c.args.tid) (stand_at c.args.self.now)
           (stand_at c.loop-wait.self) (stand_at c.come_of.new.self) (λ k. is_slot k (option_copied c.slot_ref.result))
           (λ k. has_slot k (take i ss)) (λ k. has_slot k (take (i + 1) ss))
-          (λ k. waits_more (is_slot k) c.args.waits.now i (option_copied c.slot_ref.result) _ c.loop-wait-test.true c.slot_ref.ensures) c.come_of.ensures.here c.come_of.ensures.elsewhere c.loop-wait.invariant.done;
+          (λ k. waits_more (is_slot k) c.args.waits.now i
+          (option_copied c.slot_ref.result) _ c.loop-wait-test.true c.slot_ref.ensures) c.come_of.ensures.here c.come_of.ensures.elsewhere c.loop-wait.invariant.done;
       cost = λ digits few.
           let before = c.loop-wait.invariant.cost digits few in
           let one = c.come_of.ensures.cost digits (λ k e some. decide (has_slot k (take i ss))

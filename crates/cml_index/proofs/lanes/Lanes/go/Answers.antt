@@ -21,7 +21,8 @@ loop-wait-preserved c =
       done = one_more (stands.HasGone c.args.tid) (go_twice c.args.tid) (stand_at c.count.new.self)
           (stand_at c.loop-wait.self) (stand_at c.go_of.new.self) (λ k. is_slot k (option_copied c.slot_ref.result))
           (λ k. has_slot k (take i ss)) (λ k. has_slot k (take (i + 1) ss))
-          (λ k. waits_more (is_slot k) c.args.waits.now i (option_copied c.slot_ref.result) _ c.loop-wait-test.true c.slot_ref.ensures) c.go_of.ensures.here c.go_of.ensures.elsewhere c.loop-wait.invariant.done;
+          (λ k. waits_more (is_slot k) c.args.waits.now i
+          (option_copied c.slot_ref.result) _ c.loop-wait-test.true c.slot_ref.ensures) c.go_of.ensures.here c.go_of.ensures.elsewhere c.loop-wait.invariant.done;
       cost = λ digits few.
           let before = c.loop-wait.invariant.cost digits few in
           let one = c.go_of.ensures.cost digits (λ k e some. decide (has_slot k (take i ss))

@@ -29,7 +29,8 @@ loop-leaf-preserved c =
           ∙ c.loop-leaf.invariant.late k);
       room = λ k. decide (is_slot k (option_copied c.slot_ref.result))
           (λ on. (c.in_ok-note_of.ensures.here k on).1)
-          (λ off. let a = c.loop-leaf.invariant.room k in let b = c.note_of.ensures.kept k in let e : length (late_at after k) ≡ length (late_at before k) = ap length (c.note_of.ensures.elsewhere k off) in
+          (λ off. let a = c.loop-leaf.invariant.room k in let b = c.note_of.ensures.kept k in
+          let e : length (late_at after k) ≡ length (late_at before k) = ap length (c.note_of.ensures.elsewhere k off) in
           omega (arith, a, b, e));
     }
 

@@ -37,7 +37,8 @@ enter-requires-clause-room c = record {
   small = search rules;
   late = λ k. c.tell_and_leave.ensures.freed.late k ∙ c.in-Ok.ensures.room.late k;
   room = λ
-      k. let a = c.in-Ok.ensures.room.room k in let b = c.tell_and_leave.ensures.freed.room k in let e : length (late_at c.tell_and_leave.new.self.lanes k) ≡ length (late_at c.make_ready.new.self.lanes k) = ap length (c.tell_and_leave.ensures.freed.late k) in
+      k. let a = c.in-Ok.ensures.room.room k in let b = c.tell_and_leave.ensures.freed.room k in
+      let e : length (late_at c.tell_and_leave.new.self.lanes k) ≡ length (late_at c.make_ready.new.self.lanes k) = ap length (c.tell_and_leave.ensures.freed.late k) in
       omega (arith, a, b, e);
   named = Every-weaker (λ k. spec.is_named c.make_ready.new.self.flags.entries (spec.slot_of_nack k))
       (λ k. spec.is_named c.tell_and_leave.new.self.flags.entries (spec.slot_of_nack k))

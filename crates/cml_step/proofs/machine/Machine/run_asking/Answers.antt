@@ -21,7 +21,8 @@ run_on-requires-clause-goes c = (omega arith, ap (machine_term c.args.program.no
 
 pub returns-clause-meant : goal.returns-clause-meant
 returns-clause-meant c =
-    subst (λ (m : PlainMachine). IfOk c.run_on.result (λ steps. IsSlice (record { program = c.args.program.now; start = m; end = c.run_on.new.self; ask = plain_ask c.run_on.new.asked; steps = steps })))
+    subst (λ (m : PlainMachine). IfOk c.run_on.result
+    (λ steps. IsSlice (record { program = c.args.program.now; start = m; end = c.run_on.new.self; ask = plain_ask c.run_on.new.asked; steps = steps })))
     c.in_ok-copy_from.ensures c.run_on.ensures.meant
 
 pub returns-clause-spare : goal.returns-clause-spare

@@ -28,5 +28,6 @@ returns-in-Ok-clause-meant c =
 pub overflow_add-result : goal.overflow_add-result
 overflow_add-result c =
     let p = c.args.program.now in
-    let few = slice_within (text_of p) c.self.inside.thread.0 (1000 - c.args.done) c.in-Ok.more (term_of p c.self.inside.stack) (term_of p c.run.new.stack) (plain_ask c.run.new.asked) c.in-Ok.ensures.meant in
+    let few = slice_within (text_of p) c.self.inside.thread.0 (1000 - c.args.done) c.in-Ok.more (term_of p c.self.inside.stack) (term_of p c.run.new.stack)
+    (plain_ask c.run.new.asked) c.in-Ok.ensures.meant in
     omega (arith, few, c.requires.goes.0)

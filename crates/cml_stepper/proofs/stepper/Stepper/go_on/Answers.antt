@@ -8,7 +8,8 @@ go-requires-clause-allowed c = typed_allowed c.args.hub.now.course.world c.args.
 
 pub returns-in_ok-gone-in-Some-clause-moves : goal.returns-in_ok-gone-in-Some-clause-moves
 returns-in_ok-gone-in-Some-clause-moves c =
-    moves_some (places_known c.args.self.now) c.args.what c.args.hub.now c.go.new.hub c.in_ok-gone-in-Some.gone c.in-Some.item _ (sym c.in-Some.is ∙ c.in_ok-named.ensures) c.in_ok-gone-in-Some.ensures.goes
+    moves_some (places_known c.args.self.now) c.args.what c.args.hub.now c.go.new.hub c.in_ok-gone-in-Some.gone c.in-Some.item _ (sym c.in-Some.is ∙
+    c.in_ok-named.ensures) c.in_ok-gone-in-Some.ensures.goes
 
 pub returns-in_ok-stay-in-None-clause-moves : goal.returns-in_ok-stay-in-None-clause-moves
 returns-in_ok-stay-in-None-clause-moves c =

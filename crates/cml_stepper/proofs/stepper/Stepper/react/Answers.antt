@@ -30,14 +30,18 @@ returns-in_ok-listed-in-List-clause-does c =
     (keeps_so (Lists h.course n) h c.in_ok-listed-in-List.listed c.stays-in-List.result c.stays-in-List.ensures c.in_ok-listed-in-List.ensures)
 
 pub returns-in_ok-taken-in-Row-clause-does : goal.returns-in_ok-taken-in-Row-clause-does
-returns-in_ok-taken-in-Row-clause-does c = does_as (places_known c.args.self.now) c.args.what _ c.args.hub.now c.go_on.new.hub c.in_ok-taken-in-Row.taken c.in-Row.is (λ m. m) c.in_ok-taken-in-Row.ensures.moves
+returns-in_ok-taken-in-Row-clause-does c = does_as (places_known c.args.self.now) c.args.what _ c.args.hub.now c.go_on.new.hub c.in_ok-taken-in-Row.taken c.in-Row.is
+    (λ m. m) c.in_ok-taken-in-Row.ensures.moves
 
 pub returns-in_ok-turned-in-Turn-clause-does : goal.returns-in_ok-turned-in-Turn-clause-does
-returns-in_ok-turned-in-Turn-clause-does c = does_as (places_known c.args.self.now) c.args.what _ c.args.hub.now c.go_on-in-Turn.new.hub c.in_ok-turned-in-Turn.turned c.in-Turn.is (λ m. m) c.in_ok-turned-in-Turn.ensures.moves
+returns-in_ok-turned-in-Turn-clause-does c = does_as (places_known c.args.self.now) c.args.what _ c.args.hub.now c.go_on-in-Turn.new.hub c.in_ok-turned-in-Turn.turned c.in-Turn.is
+    (λ m. m) c.in_ok-turned-in-Turn.ensures.moves
 
 pub returns-in_ok-next-in-Next-clause-does : goal.returns-in_ok-next-in-Next-clause-does
-returns-in_ok-next-in-Next-clause-does c = does_as (places_known c.args.self.now) c.args.what typed.Next c.args.hub.now c.go_on-in-Next.new.hub c.in_ok-next-in-Next.next c.in-Next.is (λ m. m) c.in_ok-next-in-Next.ensures.moves
+returns-in_ok-next-in-Next-clause-does c = does_as (places_known c.args.self.now) c.args.what typed.Next c.args.hub.now c.go_on-in-Next.new.hub c.in_ok-next-in-Next.next c.in-Next.is
+    (λ m. m) c.in_ok-next-in-Next.ensures.moves
 
 pub returns-in_ok-same-in-Unknown-clause-does : goal.returns-in_ok-same-in-Unknown-clause-does
 returns-in_ok-same-in-Unknown-clause-does c =
-    does_as (places_known c.args.self.now) c.args.what typed.Unknown c.args.hub.now c.go_on-in-Unknown.new.hub c.in_ok-same-in-Unknown.same c.in-Unknown.is (λ m. m) c.in_ok-same-in-Unknown.ensures.moves
+    does_as (places_known c.args.self.now) c.args.what typed.Unknown c.args.hub.now c.go_on-in-Unknown.new.hub c.in_ok-same-in-Unknown.same c.in-Unknown.is
+    (λ m. m) c.in_ok-same-in-Unknown.ensures.moves

@@ -1,12 +1,15 @@
-use Rattle.std.proofs.Common.{[], sym}
+use Rattle.std.proofs.Common.{[], refl, sym}
 use Rattle.std.proofs.lemmas.Option.{same_Some}
 use Rattle.cml_hub.specs.Runs.{opening}
 use Rattle.cml_step.specs.Calls.{text_of}
-use Rattle.cml_verify.specs.{Cores.{core_of}, Kept.{core_kept}}
+use Rattle.cml_verify.specs.{Cores.{past, core_of}, Kept.{core_kept}}
 use Rattle.cml_verify.proofs.Stepping.{keeps_here}
 use Rattle.cml_verify.proofs.schedules.SchedulesSystem.start.Goals as goal
 
 pub returns : goal.returns
 returns c =
     let p = c.args.self.now.program in
-    sym (same_Some (core_of 0 (opening (text_of p))) (core_kept p c.in_ok-kept.kept) (keeps_here p [] c.in_ok-hub.hub c.in_ok-hub.ensures c.in_ok-kept.kept c.in_ok-kept.ensures))
+    sym (same_Some (core_of (past (text_of p) []) (opening (text_of p))) (core_kept p c.in_ok-kept.kept) (keeps_here p [] c.in_ok-hub.hub c.in_ok-hub.ensures c.in_ok-kept.kept c.in_ok-kept.ensures))
+
+pub hub_after-requires : goal.hub_after-requires
+hub_after-requires c = (core_of (past (text_of c.args.self.now.program) []) (opening (text_of c.args.self.now.program)), refl, tt)

@@ -1,0 +1,76 @@
+-- The command `verify`: what is told of every schedule of a script, and what is saved of them.
+use Rattle.std.specs.Prelude.{◌≡◌, ◌⊎◌, ℕ, Bool, true, if◌then◌else◌, List, [], ◌∷◌, ◌++◌, map, Option, None, Some, is_some, option_map}
+use Rattle.cml_arguments.specs.declared.VerifyOptions.{VerifyOptions}
+use Rattle.cml_check.specs.Syntax.{Name, PlainItem}
+use Rattle.cml_explore.specs.Classes.{PlainClass}
+use Rattle.cml_explore.specs.Ends.{AreEndsTold, IsGathered}
+use Rattle.cml_explore.specs.Explored.{PlainExplored}
+use Rattle.cml_explore.specs.declared.ends.EndsTold.{EndsTold}
+use Rattle.cml_phrase.specs.Spots.{all_places}
+use Rattle.cml_schedule.specs.declared.item.Item.{Item}
+use Rattle.cml_verify.specs.Verdicts.{IsVerdict}
+use Rattle.cml_verify.specs.declared.every.Verdict.{Verdict}
+use Rattle.cml_host.specs.Exploring.{files_from}
+use Rattle.cml_host.specs.Replies.{File, PlainReply, RefusalOf, runs_out}
+use Rattle.cml_host.specs.Scripts.{PlainScript, IsNoScript, IsOpened}
+use Rattle.cml_host.specs.Servers.{IsNoFunction, first_unknown, server_numbers}
+use Rattle.cml_host.specs.Stores.{Content}
+
+-- ---- what is found
+
+-- the schedules to the ends that a search found
+abbrev pub ends_of : Verdict → List (List Item)
+ends_of v = map (λ schedule. schedule.items) v.ends.items
+
+-- Every schedule of the script was examined, up to so many states: the runs are those to the ends of a verdict, in classes of those that ended
+-- alike, and that is told of them.
+pub record IsExamined (s : PlainScript) (bound : ℕ) (servers : List ℕ) (reach : Option ℕ) (made : PlainExplored) (told : EndsTold) : Type 0 where
+  pub verdict : Verdict
+  pub found : IsVerdict s.program bound verdict.reach (ends_of verdict) verdict.states
+  pub reach_is : reach ≡ verdict.reach
+  pub gathered : IsGathered s.program servers (ends_of verdict) made
+  pub told_are : AreEndsTold (all_places s.text s.forms) s.program servers made.classes told
+
+-- ---- how it is told, and what is saved
+
+-- the status: an end is a bad one; or all that were found are good, and the bound was reached, or not
+abbrev pub verdict_status : Option ℕ → Bool → ℕ
+verdict_status reach well = if well then (if is_some reach then 4 else 0) else 6
+
+-- the files that the arguments ask for: the shortest schedule of each class, in the order in which they are told
+abbrev pub end_files : Option Name → List (PlainItem ℕ) → List PlainClass → List ℕ → List File
+end_files None p classes order = []
+end_files (Some start) p classes order = files_from start 1000000 p classes 1 order
+
+-- the names of files begin so
+abbrev pub ends_start : VerifyOptions → Option Name
+ends_start options = option_map (λ start. start.now) options.save
+
+-- the names of the functions of servers that the arguments give
+abbrev pub verified_servers : VerifyOptions → List Name
+verified_servers options = map (λ name. name.now) options.servers.items
+
+-- Some text tells what was found; the files that are asked for are saved; and the status says whether all ends are good, and all were found.
+abbrev pub VerdictTold : VerifyOptions → List (PlainItem ℕ) → Option ℕ → PlainExplored → EndsTold → PlainReply → Type 0
+VerdictTold options p reach made told reply =
+    (reply.files ≡ end_files (ends_start options) p made.classes told.order.items) × (reply.words ≡ []) × (reply.status ≡ verdict_status reach made.well)
+
+-- the script was examined, and it is told what was found
+abbrev pub ProgramVerified : VerifyOptions → PlainScript → List ℕ → PlainReply → Type 0
+ProgramVerified options s servers reply =
+    (reach : Option ℕ) × (made : PlainExplored) × (told : EndsTold) × IsExamined s options.states servers reach made told
+    × VerdictTold options s.program reach made told reply
+
+-- the same, where the script has the functions that are named as those of servers, or that memory ran out; or it has not
+abbrev pub ScriptVerified : VerifyOptions → PlainScript → PlainReply → Type 0
+ScriptVerified options s reply =
+    ((first_unknown s (verified_servers options) ≡ None)
+    × (ProgramVerified options s (server_numbers s (verified_servers options)) reply ⊎ (reply ≡ runs_out [])))
+    ⊎ RefusalOf (IsNoFunction s (verified_servers options)) reply
+
+-- `verify`: every schedule of the script that lies under the name was examined, up to the bound, and it is told how they end. Or no script lies
+-- there, which is explained, it was not read, or memory ran out.
+abbrev pub VerifyOutcome : VerifyOptions → (List ℕ → Content) → PlainReply → Type 0
+VerifyOutcome options held reply =
+    ((s : PlainScript) × IsOpened (held options.script.now) s × ScriptVerified options s reply)
+    ⊎ RefusalOf (IsNoScript true options.script.now (held options.script.now)) reply

@@ -1,0 +1,259 @@
+//! The command `verify`: every schedule of a script is examined, and it is told how they end.
+
+ghost use Rattle.std.specs.{Prelude.{◌≡◌, ◌<◌, [], IfOk, Some, length, map, option_map}, List.{All}};
+ghost use Rattle.cml_explore.specs.Ends.{AreEndsTold};
+ghost use Rattle.cml_host.specs.{Replies.{plain_file, plain_of, plain_reply}, Scripts.{plain_script}, Stores.{IsUnchanged}};
+ghost use Rattle.cml_host.specs.Verified.{IsExamined, ProgramVerified, ScriptVerified, VerdictTold, VerifyOutcome, end_files, ends_of};
+ghost use Rattle.cml_host.specs.Verified as spec;
+ghost use Rattle.cml_phrase.specs.Spots.{all_places};
+ghost use Rattle.cml_verify.specs.Verdicts.{IsVerdict};
+
+use crate::explore::class_files;
+use crate::refusal::Refusal;
+use crate::reply::{File, Reply};
+use crate::script::{Script, open_script};
+use crate::servers::find_servers;
+use crate::store::Store;
+use cml_arguments::VerifyOptions;
+use cml_check::Prog;
+use cml_ending::push_many;
+use cml_explore::{Classes, EndsTold, Explored, gather_ends, tell_ends, write_ends};
+use cml_text::Sexpr;
+use cml_verify::{Verdict, verify};
+use std::alloc::{AllocError, Global};
+
+// The status where an end is a bad one.
+const UNWELL: u8 = 6;
+
+// The status where the bound was reached.
+const BOUNDED: u8 = 4;
+
+// The budget that a schedule says that is saved. A replay goes on behind it, and an end is the same under any.
+const BUDGET: u64 = 1_000_000;
+
+// What was found of every schedule.
+#[derive(Drop)]
+struct Examined {
+    // Up to how many items the schedules were examined, if not all were.
+    reach: Option<usize>,
+    // The runs to the ends, in classes of those that ended alike.
+    made: Explored,
+    // What is told of the classes.
+    told: EndsTold,
+    // The words for it.
+    said: Vec<u8>,
+}
+
+/// Examines every schedule of the script that lies under its name, up to so many states, and tells how they end, with a file of a shortest schedule
+/// to each kind of end, where that is asked for.
+///
+/// # Errors
+/// What is wrong with the script, which is explained; or out of memory.
+pub fn verify_file<S: Store>(
+    alloc: Global,
+    options: &VerifyOptions<'_>,
+    store: &mut S,
+) -> Result<Reply, Refusal>
+    requires { 0 < options.now.states }
+    ensures told { VerifyOutcome options.now (S.holds store.old) (plain_reply [] result) }
+    ensures same { IsUnchanged (S.holds store.old) (S.holds store.new) }
+{
+    match open_script(alloc, options.script, true, store) {
+        Ok(script) => verify_opened(alloc, &script, options),
+        Err(why) => Err(why),
+    }
+}
+
+// Examines the script, where it has the functions that are named as those of servers.
+fn verify_opened(
+    alloc: Global,
+    script: &Script,
+    options: &VerifyOptions<'_>,
+) -> Result<Reply, Refusal>
+    requires { 0 < options.now.states }
+    ensures { ScriptVerified options.now (plain_script script.now) (plain_reply [] result) }
+{
+    match find_servers(alloc, script, options.servers.as_slice()) {
+        Ok(servers) => {
+            let numbers = servers.as_slice();
+            Ok(verify_program(alloc, script, options, numbers)?)
+        }
+        Err(why) => Err(why),
+    }
+}
+
+// Examines its program, and tells what was found.
+fn verify_program(
+    alloc: Global,
+    script: &Script,
+    options: &VerifyOptions<'_>,
+    servers: &[u32],
+) -> Result<Reply, AllocError>
+    requires { 0 < options.now.states }
+    ensures { IfOk result (λ reply. ProgramVerified options.now (plain_script script.now) servers.now (plain_of reply)) }
+{
+    let found = examine(alloc, script, options, servers)?;
+    tell_found(alloc, &script.program, options, found)
+}
+
+// A verdict on the program, where memory did not run out.
+fn verdict_on(alloc: Global, program: &Prog, bound: u64) -> Result<Verdict, AllocError>
+    requires { 0 < bound }
+    ensures { IfOk result (λ v. IsVerdict program.now bound v.reach (ends_of v) v.states) }
+{
+    match verify(alloc, program, bound as usize) {
+        Ok(verdict) => Ok(verdict),
+        Err(_) => Err(AllocError),
+    }
+}
+
+// Examines every schedule. What is told is made before anything is written.
+fn examine(
+    alloc: Global,
+    script: &Script,
+    options: &VerifyOptions<'_>,
+    servers: &[u32],
+) -> Result<Examined, AllocError>
+    requires bound { 0 < options.now.states }
+    ensures found { IfOk result (λ found. IsExamined (plain_script script.now) options.now.states servers.now found.reach found.made found.told) }
+    ensures below { IfOk result (λ found. All (λ n. n < length found.made.classes) found.told.order.items) }
+{
+    let verdict = verdict_on(alloc, &script.program, options.states)?;
+    let made = gather_ends(alloc, &script.program, servers, verdict.ends.as_slice())?;
+    let told = ends_told(alloc, script, servers, &made)?;
+    let said = say_found(alloc, script.forms.as_slice(), options, &verdict, &told)?;
+    Ok(Examined {
+        reach: verdict.reach,
+        made,
+        told,
+        said,
+    })
+}
+
+// What is told of the ends.
+fn ends_told(
+    alloc: Global,
+    script: &Script,
+    servers: &[u32],
+    made: &Explored,
+) -> Result<EndsTold, AllocError>
+    ensures told { IfOk result (AreEndsTold (all_places script.now.text.items script.now.forms.items) script.now.program servers.now made.now.classes) }
+    ensures below { IfOk result (λ told. All (λ n. n < length made.now.classes) told.order.items) }
+{
+    let text = script.text.as_slice();
+    let forms = script.forms.as_slice();
+    tell_ends(alloc, text, forms, &script.program, servers, made.classes())
+}
+
+// The words for what was found.
+fn say_found(
+    alloc: Global,
+    forms: &[Sexpr],
+    options: &VerifyOptions<'_>,
+    verdict: &Verdict,
+    told: &EndsTold,
+) -> Result<Vec<u8>, AllocError> {
+    let mut said = Vec::new(alloc);
+    match verdict.reach {
+        None => push_whole(alloc, &mut said, options.script, verdict.states, told)?,
+        Some(most) => push_bound(alloc, &mut said, options.states, most)?,
+    }
+    write_ends(alloc, &mut said, forms, told)?;
+    Ok(said)
+}
+
+// Appends that every schedule was examined, and how many states there are.
+fn push_whole(
+    alloc: Global,
+    said: &mut Vec<u8>,
+    name: &str,
+    states: usize,
+    told: &EndsTold,
+) -> Result<(), AllocError> {
+    said.extend_from_slice(b"every schedule of ")?;
+    said.extend_from_slice(name.as_bytes())?;
+    said.extend_from_slice(b": ")?;
+    push_many(alloc, said, " state", " states", states as u64)?;
+    if told.classes.is_empty() {
+        said.extend_from_slice(b"; none ends")?;
+    }
+    said.extend_from_slice(b"\n")
+}
+
+// Appends that the bound was reached, and which ends are told then.
+fn push_bound(
+    alloc: Global,
+    said: &mut Vec<u8>,
+    bound: u64,
+    most: usize,
+) -> Result<(), AllocError> {
+    said.extend_from_slice(b"the bound of ")?;
+    push_many(alloc, said, " state", " states", bound)?;
+    said.extend_from_slice(b" is reached: ends with schedules of up to ")?;
+    push_many(alloc, said, " item", " items", most as u64)?;
+    said.extend_from_slice(b" are told; others may be missing\n")
+}
+
+// What is told of what was found.
+fn tell_found(
+    alloc: Global,
+    program: &Prog,
+    options: &VerifyOptions<'_>,
+    found: Examined,
+) -> Result<Reply, AllocError>
+    requires { All (λ n. n < length found.made.classes) found.told.order.items }
+    ensures { IfOk result (λ reply. VerdictTold options.now program.now found.reach found.made found.told (plain_of reply)) }
+{
+    let status = verdict_status(&found);
+    let Examined {
+        reach: _,
+        made,
+        told,
+        said,
+    } = found;
+    let files = files_of(
+        alloc,
+        program,
+        options.save,
+        made.classes(),
+        told.order.as_slice(),
+    )?;
+    drop(made);
+    drop(told);
+    Ok(Reply {
+        output: said,
+        files,
+        words: Vec::new(alloc),
+        status,
+    })
+}
+
+// A file of a schedule to each class of ends, where that is asked for.
+fn files_of(
+    alloc: Global,
+    program: &Prog,
+    start: Option<&str>,
+    classes: &Classes,
+    order: &[usize],
+) -> Result<Vec<File>, AllocError>
+    requires { All (λ n. n < length classes.now) order.now }
+    ensures { IfOk result (λ files. map plain_file files.items ≡ end_files (option_map (λ start. start.now) start.entry) program.now classes.now order.now) }
+{
+    match start {
+        Some(start) => class_files(alloc, program, BUDGET, start, classes, order),
+        None => Ok(Vec::new(alloc)),
+    }
+}
+
+// The status of what was found.
+fn verdict_status(found: &Examined) -> u8
+    ensures { result ≡ spec.verdict_status found.now.reach found.now.made.well }
+{
+    if !found.made.is_well() {
+        UNWELL
+    } else if found.reach.is_some() {
+        BOUNDED
+    } else {
+        0
+    }
+}

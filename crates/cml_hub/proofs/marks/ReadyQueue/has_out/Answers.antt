@@ -1,7 +1,0 @@
-use Rattle.cml_hub.proofs.Waiting.{counted_any}
-use Rattle.cml_hub.proofs.marks.ReadyQueue.has_out.Goals as goal
-
-pub returns : goal.returns
-returns c =
-    let s = c.self.inside in
-    rw (← c.self.view_is) (counted_any s.marks.items s.outs c.self.invariant.counted)

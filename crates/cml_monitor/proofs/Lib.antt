@@ -1,2 +1,0 @@
-mod Threads
-mod Rows
