@@ -151,6 +151,12 @@ def learn(text):
     write(FOUND, found)
 
 
+def lacking():
+    """What was found to be reached here and the list lacks, each as file and name: because of it the sources are read twice."""
+    known_here, found = read(LIST)[1], read(FOUND)[1]
+    return [f"{path} {name}" for path in sorted(found) for name in sorted(found[path] - known_here.get(path, set()))]
+
+
 def main():
     if sys.argv[1:]:
         sys.exit(__doc__)
