@@ -66,7 +66,7 @@ can_where false o q e = refl
 
 same_filter : (f g : Item → Bool) (items : List Item) → ((i : Item) → f i ≡ g i) → filter f items ≡ filter g items
 same_filter f g [] h = refl
-same_filter f g (i ∷ items) h = ap (λ b. if b then i ∷ filter f items else filter f items) (h i) ∙ ap (λ l. if g i then i ∷ l else l) (same_filter f g items h)
+same_filter f g (i ∷ items) h = ap (λ b. cond b (i ∷ filter f items) (filter f items)) (h i) ∙ ap (λ l. cond (g i) (i ∷ l) l) (same_filter f g items h)
 
 pub same_allowed : (p : Program) (s : Bool) (a : Past) (r : Run) → allowed p (run_at (core_of s a r)) ≡ allowed p r
 same_allowed p s a r =
