@@ -19,3 +19,5 @@ mod DrawnLemmas
 mod ExploringLemmas
 mod TalkLemmas
 mod SteppedLemmas
+mod OutcomeLemmas
+mod FoundLemmas
