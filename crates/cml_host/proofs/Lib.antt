@@ -21,3 +21,4 @@ mod TalkLemmas
 mod SteppedLemmas
 mod OutcomeLemmas
 mod FoundLemmas
+mod VerifyLemmas

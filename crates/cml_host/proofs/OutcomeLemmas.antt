@@ -73,7 +73,8 @@ told_written old text number = simp (append_assoc, append-nil) refl
 
 -- ---- files
 
-files_append : (start : Name) (p : List (PlainItem ℕ)) (place : ℕ) (xs ys : List PlainOutcomeTold) → files_of start p place (xs ++ ys) ≡ files_of start p place xs ++ files_of start p (place + length xs) ys
+files_append : (start : Name) (p : List (PlainItem ℕ)) (place : ℕ) (xs ys : List PlainOutcomeTold) → files_of start p place (xs ++ ys) ≡ files_of start p place xs ++ files_of start p
+    (place + length xs) ys
 files_append start p place [] ys = ap (λ (n : ℕ). files_of start p n ys) (sym (add-zero place))
 files_append start p place (x ∷ xs) ys =
     let there : suc place + length xs ≡ place + suc (length xs) = omega arith in

@@ -77,7 +77,8 @@ fn verify_opened(
 {
     match find_servers(alloc, script, options.servers.as_slice()) {
         Ok(servers) => {
-            verify_program(alloc, script, options, servers.as_slice())
+            let numbers = servers.as_slice();
+            verify_program(alloc, script, options, numbers)
         }
         Err(why) => Err(why),
     }
