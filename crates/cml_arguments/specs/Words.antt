@@ -134,7 +134,9 @@ explore_command = command_of (codes "explore")
     (file_rule (codes "FILE") ∷ runs_rule (codes "runs") ∷ any_rule (codes "seed") ∷ count_rule (codes "steps") ∷ workers_rule (codes "workers") ∷ order_rules ++ finding_rules)
 
 abbrev pub verify_command : Shape
-verify_command = command_of (codes "verify") (file_rule (codes "FILE") ∷ states_rule (codes "states") ∷ option_rule (codes "save") ∷ list_rule (codes "servers") ∷ [])
+verify_command =
+    command_of (codes "verify")
+    (file_rule (codes "FILE") ∷ states_rule (codes "states") ∷ flag_rule (codes "outcomes") ∷ option_rule (codes "save") ∷ list_rule (codes "servers") ∷ [])
 
 abbrev pub shrink_command : Shape
 shrink_command = command_of (codes "shrink") (file_rule (codes "FILE") ∷ file_rule (codes "SCHEDULE") ∷ count_rule (codes "tries") ∷ [])
@@ -276,6 +278,7 @@ pub record IsExplore (given : List Row) (options : ExploreOptions) : Type 0 wher
 pub record IsVerify (given : List Row) (options : VerifyOptions) : Type 0 where
   pub script : first_of (codes "FILE") given ≡ Some options.script.now
   pub states : options.states ≡ unwrap_or (option_number (codes "states") given) 20000
+  pub outcomes : options.outcomes ≡ is_flagged (codes "outcomes") given
   pub save : option_map (λ start. start.now) options.save ≡ first_of (codes "save") given
   pub servers : map (λ name. name.now) options.servers.items ≡ option_texts (codes "servers") given
   pub counts : IsStates options.states

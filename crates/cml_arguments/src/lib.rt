@@ -202,6 +202,8 @@ pub struct VerifyOptions<'a> {
     pub script: &'a str,
     /// How many states may be kept, from 1 to 100,000,000; where the arguments give no number, 20,000.
     pub states: u64,
+    /// Whether what every schedule gives is told, in a form that a program reads, in place of how they end.
+    pub outcomes: bool,
     /// What the name of each file begins with that gets a schedule; without it none is saved.
     pub save: Option<&'a str>,
     /// The functions of servers: threads that began with one of them may wait.

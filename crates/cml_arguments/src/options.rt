@@ -151,6 +151,7 @@ fn verify_options<'a>(alloc: Global, matches: &ArgMatches<'a>) -> Given<VerifyOp
     Ok(VerifyOptions {
         script: given(matches, "FILE"),
         states: number(matches, "states").unwrap_or(DEFAULT_STATES),
+        outcomes: flag(matches, "outcomes"),
         save: matches.get_str("save"),
         servers,
     })

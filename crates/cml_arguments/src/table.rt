@@ -206,7 +206,11 @@ fn verify<'a>(alloc: Global) -> Made<'a>
     let save = option(alloc, "save", "PREFIX").help(
         "Saves the shortest schedule of each kind of end, as PREFIX-1.schedule and so on",
     );
+    let outcomes = flag_of(alloc, "outcomes").help(
+        "Writes each outcome once, with what is printed and how each thread ends, as a line of JSON",
+    );
     let command = with_arg(on_file(alloc, "verify", about), states);
+    let command = with_arg(command, outcomes);
     with_arg(with_arg(command, save), servers(alloc))
 }
 

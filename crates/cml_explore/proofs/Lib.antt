@@ -10,3 +10,4 @@ pub mod RankLemmas
 pub mod LawLemmas
 pub mod ToldLemmas
 pub mod EndLemmas
+pub mod OutcomeLemmas

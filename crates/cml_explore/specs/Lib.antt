@@ -6,6 +6,7 @@ pub mod Sights
 pub mod Ranks
 pub mod Told
 pub mod Ends
+pub mod Outcomes
 pub mod SightViews
 pub mod ClassViews
 pub mod Laws

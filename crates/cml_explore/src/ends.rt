@@ -43,8 +43,8 @@ pub struct EndsTold {
     pub order: Vec<usize>,
 }
 
-// The hub that has gone through this schedule of the program.
-fn hub_by(alloc: Global, program: &Prog, items: &[Item]) -> Result<Hub, AllocError>
+/// The hub that has gone through this schedule of the program.
+pub(crate) fn hub_by(alloc: Global, program: &Prog, items: &[Item]) -> Result<Hub, AllocError>
     ensures { IfOk result (HasGoneThrough program.now items.now) }
 {
     let again = program.copy()?;

@@ -462,8 +462,11 @@ pub fn class_files(
     Ok(files)
 }
 
-// The file of the class that comes in this place in the answer, counted from 1, with this schedule.
-fn class_file(
+/// The file of the class that comes in this place in the answer, counted from 1, with this schedule.
+///
+/// # Errors
+/// Out of memory.
+pub fn class_file(
     alloc: Global,
     program: &Prog,
     budget: u64,

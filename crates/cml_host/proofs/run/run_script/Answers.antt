@@ -1,13 +1,13 @@
-use Rattle.std.proofs.Common.{◌≡◌, ◌∙◌, Bor, List, ℕ, None, ap, inr, is_some, map, subst}
+use Rattle.std.proofs.Common.{◌≡◌, ◌∙◌, Bor, List, [], ℕ, None, ap, inr, is_some, map, subst}
 use Rattle.cml_host.specs.Closed.{plain_asked}
-use Rattle.cml_host.specs.Replies.{RefusalOf, Replies, passage}
+use Rattle.cml_host.specs.Replies.{RefusalOf, Replies, passage, plain_refusal}
 use Rattle.cml_host.specs.Running.{plain_saving}
 use Rattle.cml_host.specs.Scripts.{plain_script}
 use Rattle.cml_host.specs.Servers.{IsNoFunction, first_unknown, server_numbers}
 use Rattle.cml_host.specs.Stores.{Shelf}
+use Rattle.cml_host.proofs.BehindLemmas.{refusal_of}
 use Rattle.cml_host.proofs.PictureLemmas.{saving_asked}
 use Rattle.cml_host.proofs.RanLemmas.{opened_ran}
-use Rattle.cml_host.proofs.ReplyLemmas.{refused}
 use Rattle.cml_host.proofs.run.run_script.Goals as goal
 
 pub returns-in-Ok-clause-ran : goal.returns-in-Ok-clause-ran
@@ -33,5 +33,5 @@ returns-in-Err-clause-ran g c =
     let s = plain_script c.args.script in
     inr (
     subst (λ (ns : List (Bor (List ℕ))). Replies (RefusalOf (IsNoFunction s (map (λ name. name.now) ns))) output errors store c.carry_out.result) c.as_slice.ensures.value
-    (refused (IsNoFunction s (map (λ name. name.now) c.as_slice.result.now)) c.in-Err.why output errors store c.carry_out.result c.in-Err.ensures.err c.carry_out.ensures.carried)
+    (plain_refusal [] c.in-Err.why, refusal_of (IsNoFunction s (map (λ name. name.now) c.as_slice.result.now)) c.in-Err.why c.in-Err.ensures.err, c.carry_out.ensures.carried)
     )

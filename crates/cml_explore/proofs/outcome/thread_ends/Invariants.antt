@@ -1,0 +1,12 @@
+use Rattle.std.proofs.Common.{◌≡◌, ◌++◌, drop}
+use Rattle.std.specs.Prelude.{is_some}
+use Rattle.cml_fault.specs.FallViews.{fall_in}
+use Rattle.cml_explore.specs.Outcomes.{ends_from}
+use Rattle.cml_explore.proofs.outcome.thread_ends.Given as goal
+
+-- those so far, and those of the threads that are left
+abbrev pub invariant-loop-t : goal.invariant-loop-t
+invariant-loop-t l =
+    let threads = l.hub.course.world.threads in
+    let fell = λ t. is_some (fall_in l.falls t) in
+    l.ends.items ++ ends_from fell l.t (drop l.t threads) ≡ ends_from fell 0 threads

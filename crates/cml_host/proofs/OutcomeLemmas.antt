@@ -1,0 +1,100 @@
+-- How every schedule's outcome is told, one thing after another.
+use Rattle.std.proofs.Common.{◌≡◌, ◌∙◌, ℕ, zero, suc, ◌+◌, ◌<◌, List, [], ◌∷◌, ◌++◌, length, map, take, get_or, codes, refl, sym, ap, arith, append_assoc, append-nil, add-zero}
+use Rattle.std.specs.Prelude.{Vec}
+use Rattle.std.specs.Fmt.{decimal}
+use Rattle.std.specs.List.{flat_map}
+use Rattle.std.specs.declared.alloc.Global.{Global}
+use Rattle.std.proofs.lemmas.List.{flat_map_more, length-map, length-take-le, map_push, take_more}
+use Rattle.cml_arguments.specs.Words.{saved_name}
+use Rattle.cml_check.specs.Sizes.{size_of}
+use Rattle.cml_check.specs.Syntax.{Name, PlainItem}
+use Rattle.cml_schedule.specs.Written.{schedule_text}
+use Rattle.cml_schedule.specs.declared.item.Item.{Item}
+use Rattle.cml_text.specs.Lines.{line}
+use Rattle.cml_host.specs.Json.{behind_comma, commas, member, object}
+use Rattle.cml_host.specs.Outcomes.{PlainOutcomeTold, files_of, outcome_file, plain_outcome_told}
+use Rattle.cml_host.specs.Replies.{File, file, plain_file}
+use Rattle.cml_host.specs.declared.outcomes.OutcomeTold.{OutcomeTold}
+use Rattle.cml_host.specs.declared.reply.File as code
+
+-- ---- lists, one more
+
+-- what is made of one more
+pub mapped_next : {X Y Z : Type 0} (f : X → Z) (g : Y → Z) (old new : List X) (x : X) (ys : List Y) (i : ℕ) (d : Y) → i < length ys → new ≡ old ++ x ∷ [] → f x ≡ g (get_or ys i d)
+    → map f old ≡ map g (take i ys) → map f new ≡ map g (take (i + 1) ys)
+mapped_next f g old new x ys i d within more is was =
+    ap (map f) more ∙ (map_push f old x ∙ (ap (λ zs. zs ++ f x ∷ []) was ∙ (ap (λ z. map g (take i ys) ++ z ∷ []) is
+    ∙ (sym (map_push g (take i ys) (get_or ys i d)) ∙ sym (ap (map g) (take_more ys i d within))))))
+
+-- what is made of one more of those that are left
+pub left_next : {X Y Z : Type 0} (f : X → Z) (g : Y → Z) (old new : List X) (x : X) (y : Y) (left behind : List Y) (all : List Z) → new ≡ old ++ x ∷ [] → f x ≡ g y → left ≡ y ∷ behind
+    → map f old ++ map g left ≡ all → map f new ++ map g behind ≡ all
+left_next f g old new x y left behind all more is first was =
+    ap (λ xs. map f xs ++ map g behind) more ∙ (ap (λ zs. zs ++ map g behind) (map_push f old x) ∙ (append_assoc (map f old) (f x ∷ []) (map g behind)
+    ∙ (ap (λ z. map f old ++ z ∷ map g behind) is ∙ (sym (ap (λ ys. map f old ++ map g ys) first) ∙ was))))
+
+pub left_none : {X Y Z : Type 0} (f : X → Z) (g : Y → Z) (old : List X) (left : List Y) (all : List Z) → left ≡ [] → map f old ++ map g left ≡ all → map f old ≡ all
+left_none f g old left all none was = sym (append-nil (map f old)) ∙ (sym (ap (λ ys. map f old ++ map g ys) none) ∙ was)
+
+-- what is appended for one more
+pub flat_next : {X Y : Type 0} (f : Y → List ℕ) (g : X → Y) (start old new : List ℕ) (xs : List X) (i : ℕ) (d : X) → i < length xs → old ≡ start ++ flat_map f (map g (take i xs))
+    → new ≡ old ++ f (g (get_or xs i d)) → new ≡ start ++ flat_map f (map g (take (i + 1) xs))
+flat_next f g start old new xs i d within was more =
+    let split : map g (take (i + 1) xs) ≡ map g (take i xs) ++ g (get_or xs i d) ∷ [] = ap (map g) (take_more xs i d within) ∙ map_push g (take i xs) (get_or xs i d) in
+    more ∙ (ap (λ t. t ++ f (g (get_or xs i d))) was ∙ (flat_map_more f start (map g (take i xs)) (g (get_or xs i d)) ∙ sym (ap (λ ys. start ++ flat_map f ys) split)))
+
+-- ---- texts of JSON
+
+comma_pushed : (texts : List (List ℕ)) (i : ℕ) (one : List ℕ) → length texts ≡ i → commas (texts ++ one ∷ []) ≡ commas texts ++ behind_comma i one
+comma_pushed [] zero one long = append-nil one
+comma_pushed [] (suc i) one long = absurd (omega (arith, long))
+comma_pushed (first ∷ texts) zero one long = absurd (omega (arith, long))
+comma_pushed (first ∷ texts) (suc i) one long = sym (flat_map_more (λ y. codes "," ++ y) first texts one)
+
+-- one text more of a list
+pub array_next : (start old new : List ℕ) (texts : List (Vec ℕ Global)) (i : ℕ) (d : Vec ℕ Global) (one : List ℕ) → i < length texts → one ≡ (get_or texts i d).items
+    → old ≡ start ++ commas (map (λ t. t.items) (take i texts)) → new ≡ old ++ behind_comma i one → new ≡ start ++ commas (map (λ t. t.items) (take (i + 1) texts))
+array_next start old new texts i d one within is was more =
+    let before = map (λ (t : Vec ℕ Global). t.items) (take i texts) in
+    let long : length before ≡ i = length-map (take i texts) (λ (t : Vec ℕ Global). t.items) ∙ length-take-le i texts (omega arith) in
+    let split : map (λ (t : Vec ℕ Global). t.items) (take (i + 1) texts) ≡ before ++ one ∷ [] =
+    ap (map (λ (t : Vec ℕ Global). t.items)) (take_more texts i d within) ∙ (map_push (λ (t : Vec ℕ Global). t.items) (take i texts) (get_or texts i d) ∙ ap (λ b. before ++ b ∷ []) (sym is)) in
+    more ∙ (ap (λ t. t ++ behind_comma i one) was ∙ (append_assoc start (commas before) (behind_comma i one)
+    ∙ (ap (λ t. start ++ t) (sym (comma_pushed before i one long)) ∙ sym (ap (λ ts. start ++ commas ts) split))))
+
+-- two members, as they are written
+pub two_members : (lines threads : List ℕ) → ((codes "\"lines\":" ++ lines) ++ codes ",\"threads\":") ++ threads ≡ commas (member (codes "lines") lines ∷ member (codes "threads") threads ∷ [])
+two_members lines threads =
+    append_assoc (codes "\"lines\":" ++ lines) (codes ",\"threads\":") threads ∙ ap (λ t. (codes "\"lines\":" ++ lines) ++ t) (sym (append-nil (codes ",\"threads\":" ++ threads)))
+
+-- an outcome, as it is written
+pub told_written : (old text number : List ℕ) → ((old ++ 123 ∷ []) ++ text) ++ (codes ",\"items\":" ++ number ++ codes "}\n") ≡ old ++ line (object (text ∷ member (codes "items") number ∷ []))
+told_written old text number = simp (append_assoc, append-nil) refl
+
+-- ---- files
+
+files_append : (start : Name) (p : List (PlainItem ℕ)) (place : ℕ) (xs ys : List PlainOutcomeTold) → files_of start p place (xs ++ ys) ≡ files_of start p place xs ++ files_of start p
+    (place + length xs) ys
+files_append start p place [] ys = ap (λ (n : ℕ). files_of start p n ys) (sym (add-zero place))
+files_append start p place (x ∷ xs) ys =
+    let there : suc place + length xs ≡ place + suc (length xs) = omega arith in
+    ap (λ (fs : List File). outcome_file start p place x ∷ fs) (files_append start p (suc place) xs ys
+    ∙ ap (λ (n : ℕ). files_of start p (suc place) xs ++ files_of start p n ys) there)
+
+-- one file more
+pub outcome_next : (start : Name) (p : List (PlainItem ℕ)) (told : List OutcomeTold) (i : ℕ) (d : OutcomeTold) (items : List Item) (files all : List code.File) (f : code.File) → i < length told
+    → items ≡ (get_or told i d).schedule.items → map plain_file files ≡ files_of start p 1 (map plain_outcome_told (take i told))
+    → plain_file f ≡ file true (saved_name start (decimal (i + 1))) (schedule_text 1000000 (size_of p) items) → all ≡ files ++ f ∷ []
+    → map plain_file all ≡ files_of start p 1 (map plain_outcome_told (take (i + 1) told))
+outcome_next start p told i d items files all f within is so_far made more =
+    let t = plain_outcome_told (get_or told i d) in
+    let before = map plain_outcome_told (take i told) in
+    let long : length before ≡ i = length-map (take i told) plain_outcome_told ∙ length-take-le i told (omega arith) in
+    let place : 1 + length before ≡ i + 1 = omega (arith, long) in
+    let split : map plain_outcome_told (take (i + 1) told) ≡ before ++ t ∷ [] = ap (map plain_outcome_told) (take_more told i d within) ∙ map_push plain_outcome_told (take i told) (get_or told i d) in
+    let this : plain_file f ≡ outcome_file start p (i + 1) t =
+    made ∙ ap (λ (xs : List Item). file true (saved_name start (decimal (i + 1))) (schedule_text 1000000 (size_of p) xs)) is in
+    let out : files_of start p 1 (map plain_outcome_told (take (i + 1) told)) ≡ files_of start p 1 before ++ outcome_file start p (i + 1) t ∷ [] =
+    ap (files_of start p 1) split ∙ (files_append start p 1 before (t ∷ []) ∙ ap (λ (k : ℕ). files_of start p 1 before ++ files_of start p k (t ∷ [])) place) in
+    ap (map plain_file) more ∙ (map_push plain_file files f ∙ (ap (λ (fs : List File). fs ++ plain_file f ∷ []) so_far
+    ∙ (ap (λ (g : File). files_of start p 1 before ++ g ∷ []) this ∙ sym out)))
