@@ -9,6 +9,7 @@ mod explore;
 mod file;
 mod item;
 mod opening;
+mod order;
 mod output;
 mod picture;
 mod reason;
