@@ -557,18 +557,28 @@ fn told_file(
     requires below { class.now.number < length classes.now }
     ensures { IfOk result (λ f. plain_file f ≡ file_told start.now budget program.now classes.now seen class.now) }
 {
-    let start = kind_start(alloc, start, class.well)?;
-    let items = classes.class(class.number).summary.shortest();
-    let place = if class.well { seen.good } else { seen.bad };
-    class_file(alloc, program, budget, start.as_str(), place, items)
+    let name = kind_start(alloc, start, class.well)?;
+    let known = classes.class(class.number);
+    let items = known.summary.shortest();
+    class_file(alloc, program, budget, name.as_str(), place_of(seen, class.well), items)
+}
+
+// How many of this kind there are.
+fn place_of(seen: Seen, well: bool) -> usize
+    ensures { result ≡ spec.place_of seen well }
+{
+    if well { seen.good } else { seen.bad }
 }
 
 // What the names of the files of good or of bad classes begin with.
 fn kind_start(alloc: Global, start: &str, well: bool) -> Result<String, AllocError>
     ensures { IfOk result (λ name. string_bytes name ≡ start_of start.now well) }
 {
-    let kind = if well { "good" } else { "bad" };
-    format!(in alloc; "{start}-{kind}")
+    if well {
+        format!(in alloc; "{start}-good")
+    } else {
+        format!(in alloc; "{start}-bad")
+    }
 }
 
 /// A file with a schedule of each of the classes of these numbers.
