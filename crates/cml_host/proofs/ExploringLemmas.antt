@@ -1,20 +1,31 @@
 -- What was shown of many runs, and what is saved of them, one thing after another.
-use Rattle.std.proofs.Common.{◌≡◌, ◌∙◌, ◌+◌, ◌<◌, ◌++◌, ◌∷◌, [], ℕ, suc, Bool, true, false, List, Option, Some, get_or, map, take, length, refl, sym, ap, add-one, add-zero, arith}
-use Rattle.std.specs.Prelude.{slice_get}
+use Rattle.std.proofs.Common.{◌≡◌, ◌∙◌, ◌+◌, ◌<◌, ◌≤◌, ◌++◌, ◌∷◌, [], ℕ, suc, Bool, true, false, List, Option, Some, get_or, map, take, drop, length, refl, sym, ap, add-one, add-zero, append-nil, append_assoc, arith}
+use Rattle.std.specs.Prelude.{Result, Ok, Err, IfOk, slice_get}
+use Rattle.std.specs.List.{All}
+use Rattle.std.proofs.lemmas.List.{drop_all}
+use Rattle.std.proofs.lemmas.List.Elements.{All-weaker}
+use Rattle.std.proofs.lemmas.Option.{slice_get_within}
 use Rattle.std.specs.Fmt.{decimal}
 use Rattle.std.specs.Option.{option_map_or}
 use Rattle.std.proofs.lemmas.List.{length-take-le, map-append}
-use Rattle.std.proofs.Math.Seq.{take-suc}
+use Rattle.std.proofs.Math.Seq.{drop-cons, take-suc}
 use Rattle.std.proofs.KnownBytes.{Appends-nil, Appends-trans}
 use Rattle.cml_check.specs.Sizes.{size_of}
 use Rattle.cml_check.specs.Syntax.{Name, PlainItem}
 use Rattle.cml_explore.specs.Classes.{PlainClass}
+use Rattle.cml_explore.specs.Explored.{PlainExplored}
+use Rattle.cml_explore.specs.Told.{IsClassTold, IsToldOfRuns}
+use Rattle.cml_explore.specs.declared.explored.Asked.{Asked}
+use Rattle.cml_explore.specs.declared.told.ClassTold.{ClassTold}
+use Rattle.cml_explore.specs.declared.told.RunsTold.{RunsTold}
+use Rattle.cml_phrase.specs.declared.place.Place.{Place}
 use Rattle.cml_schedule.specs.Written.{schedule_text}
 use Rattle.cml_schedule.specs.declared.item.Item.{Item}
 use Rattle.cml_stream.specs.Counts.{counted}
 use Rattle.cml_stream.specs.Streams.{stream}
-use Rattle.cml_arguments.specs.Words.{saved_name}
-use Rattle.cml_host.specs.Exploring.{MayShow, ShowsMarks, StopsShowing, file_of, files_from, shortest_of}
+use Rattle.cml_arguments.specs.Words.{saved_name, start_of}
+use Rattle.cml_host.specs.Exploring.{MayShow, ShowsMarks, StopsShowing, and_one, file_of, file_told, files_behind, files_from, place_of, shortest_of}
+use Rattle.cml_host.specs.declared.explore.Seen.{Seen}
 use Rattle.cml_host.specs.Narrated.{IsCutBy, Writes}
 use Rattle.cml_host.specs.Replies.{File, Moment, file, plain_file}
 use Rattle.cml_host.specs.declared.explain.Halt.{Halt}
@@ -125,12 +136,14 @@ told_all start budget p classes seen told i files whole past so_far =
     sym (append-nil (map plain_file files))
     ∙ (ap (λ (xs : List File). map plain_file files ++ xs) (sym (ap (files_behind start budget p classes seen) (drop_all i told past))) ∙ so_far)
 
-number_there : (classes : List PlainClass) (n : ℕ) (c : PlainClass) → slice_get classes n ≡ Some c → n < length classes
-number_there classes n c there = ?
+-- one class more
+pub seen_few : (seen : Seen) (well : Bool) (i : ℕ) → seen.bad ≤ i → seen.good ≤ i → ((and_one seen well).bad ≤ i + 1) × ((and_one seen well).good ≤ i + 1)
+seen_few seen true i bad good = (omega (arith, bad), omega (arith, good))
+seen_few seen false i bad good = (omega (arith, bad), omega (arith, good))
 
 -- the numbers of the classes that were told are theirs
 pub told_below : (places : List (List Place)) (p : List (PlainItem ℕ)) (asked : Asked) (made : PlainExplored) (told : RunsTold) → IsToldOfRuns places p asked made told
     → All (λ (c : ClassTold). c.number < length made.classes) told.classes.items
 told_below places p asked made told is =
-    All-weaker (IsClassTold places p asked made.classes) (λ (c : ClassTold). c.number < length made.classes) (λ c own. number_there made.classes c.number own.class own.there)
+    All-weaker (IsClassTold places p asked made.classes) (λ (c : ClassTold). c.number < length made.classes) (λ c own. slice_get_within made.classes c.number own.class own.there)
     told.classes.items is.classes_are.each
