@@ -24,7 +24,7 @@ use Rattle.cml_schedule.specs.declared.item.Item.{Item}
 use Rattle.cml_stream.specs.Counts.{counted}
 use Rattle.cml_stream.specs.Streams.{stream}
 use Rattle.cml_arguments.specs.Words.{saved_name, start_of}
-use Rattle.cml_host.specs.Exploring.{MayShow, ShowsMarks, StopsShowing, and_one, file_of, file_told, files_behind, files_from, place_of, shortest_of}
+use Rattle.cml_host.specs.Exploring.{MayShow, ShowsMarks, StopsShowing, and_one, file_of, file_told, files_behind, files_from, seen_of, shortest_of}
 use Rattle.cml_host.specs.declared.explore.Seen.{Seen}
 use Rattle.cml_host.specs.Narrated.{IsCutBy, Writes}
 use Rattle.cml_host.specs.Replies.{File, Moment, file, plain_file}
@@ -101,12 +101,12 @@ same_file budget p a b m n xs ys by_name by_place by_items = cc
 
 -- the file of a class that was told
 pub told_one : {E : Type 0} (start : Name) (budget : ℕ) (p : List (PlainItem ℕ)) (classes : List PlainClass) (seen : Seen) (told : ClassTold) (own : Name) (place : ℕ)
-    (items : List Item) (c : PlainClass) (r : Result code.File E) → own ≡ start_of start told.well → place ≡ place_of seen told.well → slice_get classes told.number ≡ Some c
+    (items : List Item) (c : PlainClass) (r : Result code.File E) → own ≡ start_of start told.well → place ≡ seen_of seen told.well → slice_get classes told.number ≡ Some c
     → items ≡ c.summary.shortest → IfOk r (λ f. plain_file f ≡ file true (saved_name own (decimal place)) (schedule_text budget (size_of p) items))
     → IfOk r (λ f. plain_file f ≡ file_told start budget p classes seen told)
 told_one start budget p classes seen told own place items c (Ok f) by_name by_place there is made =
     let shortest : items ≡ shortest_of classes told.number = is ∙ sym (ap (λ (o : Option PlainClass). option_map_or (λ c. c.summary.shortest) o []) there) in
-    made ∙ same_file budget p own (start_of start told.well) place (place_of seen told.well) items (shortest_of classes told.number) by_name by_place shortest
+    made ∙ same_file budget p own (start_of start told.well) place (seen_of seen told.well) items (shortest_of classes told.number) by_name by_place shortest
 told_one start budget p classes seen told own place items c (Err e) by_name by_place there is made = tt
 
 files_on : (start : Name) (budget : ℕ) (p : List (PlainItem ℕ)) (classes : List PlainClass) (seen : Seen) (told : List ClassTold) (i : ℕ) (c d : ClassTold) → i < length told → c ≡ get_or told i d

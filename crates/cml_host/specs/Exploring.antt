@@ -103,13 +103,13 @@ and_one seen true = record seen { good = seen.good + 1 }
 and_one seen false = record seen { bad = seen.bad + 1 }
 
 -- of its kind
-abbrev pub place_of : Seen → Bool → ℕ
-place_of seen true = seen.good
-place_of seen false = seen.bad
+abbrev pub seen_of : Seen → Bool → ℕ
+seen_of seen true = seen.good
+seen_of seen false = seen.bad
 
 -- the file of a class that was told, the last of its kind so far
 abbrev pub file_told : Name → ℕ → List (PlainItem ℕ) → List PlainClass → Seen → ClassTold → File
-file_told start budget p classes seen c = file_of (start_of start c.well) budget p classes (place_of seen c.well) c.number
+file_told start budget p classes seen c = file_of (start_of start c.well) budget p classes (seen_of seen c.well) c.number
 
 -- the files of these classes, behind so many: bad ones and good ones are counted apart
 abbrev pub files_behind : Name → ℕ → List (PlainItem ℕ) → List PlainClass → Seen → List ClassTold → List File

@@ -560,12 +560,12 @@ fn told_file(
     let name = kind_start(alloc, start, class.well)?;
     let known = classes.class(class.number);
     let items = known.summary.shortest();
-    class_file(alloc, program, budget, name.as_str(), place_of(seen, class.well), items)
+    class_file(alloc, program, budget, name.as_str(), seen_of(seen, class.well), items)
 }
 
 // How many of this kind there are.
-fn place_of(seen: Seen, well: bool) -> usize
-    ensures { result ≡ spec.place_of seen well }
+fn seen_of(seen: Seen, well: bool) -> usize
+    ensures { result ≡ spec.seen_of seen well }
 {
     if well { seen.good } else { seen.bad }
 }

@@ -5,5 +5,5 @@ use Rattle.cml_host.proofs.explore.told_file.Goals as goal
 
 pub returns : goal.returns
 returns c =
-    told_one c.args.start.now c.args.budget c.args.program.now c.args.classes.now c.args.seen c.args.class.now c.as_str.result.now c.place_of.result c.shortest-items.result.now
-    (plain_class c.class-known.result) c.class_file.result (search rules) c.place_of.ensures c.class-known.ensures c.shortest-items.ensures c.class_file.ensures
+    told_one c.args.start.now c.args.budget c.args.program.now c.args.classes.now c.args.seen c.args.class.now c.as_str.result.now c.seen_of.result c.shortest-items.result.now
+    (plain_class c.class-known.result) c.class_file.result (search rules) c.seen_of.ensures c.class-known.ensures c.shortest-items.ensures c.class_file.ensures
