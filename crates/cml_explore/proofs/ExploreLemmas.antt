@@ -17,7 +17,7 @@ use Rattle.cml_explore.specs.Classes.{Finish, PlainClass, grown, classed, classe
 use Rattle.cml_explore.specs.declared.explored.Until.{Until}
 use Rattle.cml_seed.specs.declared.order.Order.{Order}
 use Rattle.cml_explore.specs.declared.orders.Orders.{Orders}
-use Rattle.cml_explore.specs.Orders.{order_by}
+use Rattle.cml_explore.specs.Orders.{seed_order}
 use Rattle.cml_seed.specs.SeedRuns.{IsSeedRun}
 use Rattle.cml_explore.specs.Finishes.{PlainEnded, is_well, stops, IsEndOf, EndsSoBy, EachEnds, finish_of}
 use Rattle.cml_explore.specs.Explored.{PlainExplored, gathered, nothing_made, with_ended, IsExplored, SoFar, HasMade}
@@ -185,7 +185,7 @@ made_so false p asked made so_far h is = let few : made.runs < asked.runs = grin
 
 -- a run was added, which a hub has made by the seed
 pub added_by : {E : Type 0} (r : Result Bool E) (p : List (PlainItem ℕ)) (budget : ℕ) (orders : Orders) (order : Order) (servers : List ℕ)
-    (until : List Until) (seed : ℕ) (h : Kept) (old new : PlainExplored) → order ≡ order_by orders seed → IsSeedRun p budget order seed h
+    (until : List Until) (seed : ℕ) (h : Kept) (old new : PlainExplored) → order ≡ seed_order orders seed → IsSeedRun p budget order seed h
     → IfOk r (λ s. (e : PlainEnded) × IsEndOf servers h e × (new ≡ with_ended seed e old) × (s ≡ stops until e))
     → IfOk r (λ s. (e : PlainEnded) × EndsSoBy p budget orders servers seed e × (new ≡ with_ended seed e old) × (s ≡ stops until e))
 added_by (Ok s) p budget orders order servers until seed h old new at run is =

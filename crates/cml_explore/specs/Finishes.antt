@@ -15,7 +15,7 @@ use Rattle.cml_explore.specs.declared.finish.Fate.{Fate}
 use Rattle.cml_explore.specs.declared.explored.Until.{Until}
 use Rattle.cml_explore.specs.declared.explored.Until.TheVariants as until
 use Rattle.cml_explore.specs.declared.orders.Orders.{Orders}
-use Rattle.cml_explore.specs.Orders.{order_by}
+use Rattle.cml_explore.specs.Orders.{seed_order}
 use Rattle.cml_seed.specs.SeedRuns.{IsSeedRun}
 use Rattle.cml_fault.specs.declared.detail.Detail.{Detail}
 use Rattle.cml_fault.specs.Details.{AreDetails}
@@ -74,7 +74,7 @@ pub record IsEndOf (servers : List ℕ) (h : Kept) (e : PlainEnded) : Type 0 whe
 
 -- the run of the program by this seed ended so
 abbrev pub EndsSoBy : List (PlainItem ℕ) → ℕ → Orders → List ℕ → ℕ → PlainEnded → Type 0
-EndsSoBy p budget orders servers seed e = (h : Kept) × IsSeedRun p budget (order_by orders seed) seed h × IsEndOf servers h e
+EndsSoBy p budget orders servers seed e = (h : Kept) × IsSeedRun p budget (seed_order orders seed) seed h × IsEndOf servers h e
 
 -- the runs by this seed and those that follow it ended so, in turn
 abbrev pub EachEnds : List (PlainItem ℕ) → ℕ → Orders → List ℕ → ℕ → List PlainEnded → Type 0

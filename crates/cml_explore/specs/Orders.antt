@@ -15,6 +15,6 @@ order_at place =
     else by.Priority 5
 
 -- The order of the run by this seed: the one that is named; or the five go round with the seeds.
-abbrev pub order_by : Orders → ℕ → Order
-order_by (each.Named order) seed = order
-order_by each.Round seed = order_at (seed % 5)
+abbrev pub seed_order : Orders → ℕ → Order
+seed_order (each.Named order) seed = order
+seed_order each.Round seed = order_at (seed % 5)

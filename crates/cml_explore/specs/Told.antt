@@ -22,7 +22,7 @@ use Rattle.cml_explore.specs.declared.told.ThreadState.TheVariants as states
 use Rattle.cml_explore.specs.Classes.{PlainClass}
 use Rattle.cml_explore.specs.Explored.{PlainExplored}
 use Rattle.cml_explore.specs.Finishes.{fate_of, is_good}
-use Rattle.cml_explore.specs.Orders.{order_by}
+use Rattle.cml_explore.specs.Orders.{seed_order}
 use Rattle.cml_explore.specs.Ranks.{AreInRank}
 use Rattle.cml_explore.specs.Sights.{sight_of, AreSpotsToTell, threads_told}
 
@@ -56,7 +56,7 @@ pub record IsRunTold (places : List (List Place)) (h : Kept) (told : RunTold) : 
 -- what is told of the run of a program by a seed, and whether it ended well
 abbrev pub IsSeedTold : List (List Place) → List (PlainItem ℕ) → Asked → ℕ → Bool → RunTold → Type 0
 IsSeedTold places p asked seed well told =
-    (h : Kept) × IsSeedRun p asked.budget (order_by asked.orders seed) seed h × (well ≡ is_good (fate_of asked.servers.now h)) × IsRunTold places h told
+    (h : Kept) × IsSeedRun p asked.budget (seed_order asked.orders seed) seed h × (well ≡ is_good (fate_of asked.servers.now h)) × IsRunTold places h told
 
 -- What is told of one of the classes: what is kept of it, and what is told of its first run.
 pub record IsClassTold (places : List (List Place)) (p : List (PlainItem ℕ)) (asked : Asked) (classes : List PlainClass) (told : ClassTold) : Type 0 where
@@ -66,7 +66,7 @@ pub record IsClassTold (places : List (List Place)) (p : List (PlainItem ℕ)) (
   pub outputs_are : told.outputs ≡ length class.summary.outputs
   pub first_is : told.first ≡ class.summary.first
   pub items_are : told.items ≡ class.summary.items
-  pub order_is : told.order ≡ order_by asked.orders told.first
+  pub order_is : told.order ≡ seed_order asked.orders told.first
   pub run_is : IsSeedTold places p asked told.first told.well told.run
 
 -- What is told of the classes: of each, by size.

@@ -37,7 +37,7 @@ fn order_at(place: u64) -> Order
 impl Orders {
     /// The order of the run by this seed.
     pub fn of(self, seed: u64) -> Order
-        ensures { result ≡ spec.order_by self seed }
+        ensures { result ≡ spec.seed_order self seed }
     {
         match self {
             Orders::Named(order) => order,
