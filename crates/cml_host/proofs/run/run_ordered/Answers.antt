@@ -14,7 +14,7 @@ returns-in-Ok-clause-ran g c =
     let store : Shelf = record { before = g.S.Store.holds c.args.store.now; after = g.S.Store.holds c.carry_out-status.new.store } in
     let told = ordered_told (plain_asked c.args.asked.now) (plain_saving c.args.saving.now) h c.end-made.result c.end-made.ensures.ok c.end-made.ensures.err in (
       plain_reply h.course.output c.end-made.result,
-      inl (h, c.in-Ok.ensures, told),
+      inl (h, rw c.unwrap_or-seed.ensures at c.in-Ok.ensures, told),
       subst (λ (ts : List ℕ). IsCarriedOut (plain_reply ts c.end-made.result) output errors store c.carry_out-status.result) c.out.ensures c.carry_out-status.ensures.carried,
     )
 
