@@ -4,13 +4,13 @@ use Rattle.std.specs.Char.{is_ascii_digit}
 use Rattle.std.specs.List.{list_all}
 use Rattle.std.proofs.lemmas.List.{append_cancel_left, append_cancel_right}
 use Rattle.std.specs.Prelude.{IsSomeAnd}
-use Rattle.cml_arguments.specs.Words.{drawn_to, record_of, saved_end, saved_name, OverRecord, ReplacedOdds, SavesOver, ToldOdds}
+use Rattle.cml_arguments.specs.Words.{drawn_to, record_of, saved_end, saved_name, OrElse, OverRecord, ReplacedOdds, SavesOver, ToldOdds}
 use Rattle.cml_arguments.specs.declared.RunOptions.{RunOptions}
 
 -- nothing was said of the first of two ways in which options are at odds
-pub told_other : (P Q : List ℕ → Type 0) (told : Option (List ℕ)) → ToldOdds P None → ToldOdds Q told → ToldOdds (λ text. P text ⊎ Q text) told
-told_other P Q None none other = λ text odds. elim odds [ inl first ↦ none text first | inr second ↦ other text second ]
-told_other P Q (Some text) none other = inr other
+pub told_other : (P Q : List ℕ → Type 0) (told : Option (List ℕ)) → ToldOdds P None → ToldOdds Q told → ToldOdds (OrElse P Q) told
+told_other P Q None none other = λ text odds. elim odds [ inl first ↦ none text first | inr second ↦ other text second.1 ]
+told_other P Q (Some text) none other = inr (none, other)
 
 -- what is said where the picture would replace the record
 pub told_over : (options : RunOptions) (name : List ℕ) (told : Option (List ℕ)) → record_of options ≡ Some name

@@ -99,6 +99,7 @@ fn run<'a>(alloc: Global) -> Made<'a>
     let command = with_arg(command, watch(alloc));
     let command = with_arg(command, record(alloc));
     let command = with_arg(command, draw);
+    let command = ordering(alloc, command);
     explaining(alloc, ending(alloc, command))
 }
 
@@ -164,12 +165,18 @@ fn explore<'a>(alloc: Global) -> Made<'a>
     let steps = count(alloc, "steps", "B").help(
         "How many steps each may take, 1 to 1000000000 [default: 1000000]",
     );
-    let workers = workers(alloc).help("How many workers make the runs, 1 to 64 [default: 1]");
+    let workers = workers(alloc).help(
+        "How many workers make the runs, 1 to 64 [default: one for each processor]",
+    );
+    let picks = flag_of(alloc, "picks").help(
+        "Gives the turns in order, and picks what else happens [default: all orders go round]",
+    );
     let about = "Runs a script many times, and says how the runs end";
     let command = with_arg(on_file(alloc, "explore", about), runs);
     let command = with_arg(command, seed);
     let command = with_arg(command, steps);
     let command = with_arg(command, workers);
+    let command = with_arg(command, picks);
     finding(alloc, ordering(alloc, command))
 }
 
@@ -189,10 +196,10 @@ fn finding<'a>(alloc: Global, command: Made<'a>) -> Made<'a>
     ensures { (shape : Shape) → IfOk command.entry (IsShapedAs shape) → IfOk result (IsShapedAs (with_finding shape)) }
 {
     let save = option(alloc, "save", "PREFIX").help(
-        "Saves the shortest schedule of each kind of end, as PREFIX-1.schedule and so on",
+        "Saves the shortest schedule of each kind of end, as PREFIX-bad-1.schedule, PREFIX-good-1.schedule and so on",
     );
-    let until = option(alloc, "until", "WORD").help(
-        "Stops at the first run of this kind: waits, fault or budget",
+    let until = list(alloc, "until", "WORD").help(
+        "Stops at the first run of this kind: waits, deadlock, fault, budget or bad; may be given again",
     );
     with_arg(with_arg(with_arg(command, save), servers(alloc)), until)
 }
@@ -304,11 +311,18 @@ fn count<'a>(alloc: Global, name: &'a str, value: &'a str) -> Arg<'a>
     option(alloc, name, value).value_parser(value_parser!(u64).range(1..=MOST))
 }
 
+// An option that may be given again, each time with a value.
+fn list<'a>(alloc: Global, name: &'a str, value: &'a str) -> Arg<'a>
+    ensures { FollowsRule (list_rule name.now) result }
+{
+    option(alloc, name, value).action(ArgAction::Append)
+}
+
 // The option that names functions of servers.
 fn servers<'a>(alloc: Global) -> Arg<'a>
     ensures { FollowsRule (list_rule (codes "servers")) result }
 {
-    option(alloc, "servers", "F").action(ArgAction::Append).help(
+    list(alloc, "servers", "F").help(
         "Lets threads that began with function F wait; may be given again",
     )
 }

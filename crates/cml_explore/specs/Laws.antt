@@ -10,6 +10,7 @@ use Rattle.cml_fault.specs.Details.{AreDetails, alike}
 use Rattle.cml_explore.specs.Classes.{PlainClass}
 use Rattle.cml_seed.specs.SeedRuns.{IsSeedRun}
 use Rattle.cml_explore.specs.Explored.{PlainExplored, IsExplored}
+use Rattle.cml_explore.specs.Orders.{seed_order}
 
 -- This is the schedule of the run by one of so many seeds, which ended as the runs of a class did that have these details.
 pub record IsOneOfClass (p : List (PlainItem ℕ)) (asked : Asked) (runs : ℕ) (details : List Detail) (items : List Item) : Type 0 where
@@ -17,7 +18,7 @@ pub record IsOneOfClass (p : List (PlainItem ℕ)) (asked : Asked) (runs : ℕ) 
   pub from : asked.first ≤ seed
   pub below : seed < asked.first + runs
   pub hub : Kept
-  pub run : IsSeedRun p asked.budget asked.order seed hub
+  pub run : IsSeedRun p asked.budget (seed_order asked.orders seed) seed hub
   pub ended : List Detail
   pub are : AreDetails hub ended
   pub same : alike ended details ≡ true

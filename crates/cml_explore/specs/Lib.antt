@@ -1,3 +1,4 @@
+pub mod Orders
 pub mod Classes
 pub mod Finishes
 pub mod Explored

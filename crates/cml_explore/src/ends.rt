@@ -10,6 +10,7 @@ ghost use Rattle.cml_explore.specs.Ends as spec;
 use crate::classes::Classes;
 use crate::explored::{Asked, Explored, is_well};
 use crate::finish::fate_of;
+use crate::orders::Orders;
 use crate::tell::run_told;
 use crate::told::RunTold;
 use cml_check::Prog;
@@ -62,9 +63,9 @@ fn asked_of(servers: &[u32]) -> Asked<'_>
         budget: BUDGET,
         first: 0,
         runs: 0,
-        order: Order::Queue,
+        orders: Orders::Named(Order::Queue),
         servers,
-        until: None,
+        until: &[],
     }
 }
 

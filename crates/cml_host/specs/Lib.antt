@@ -4,6 +4,7 @@ pub mod Written
 pub mod Refused
 pub mod Replies
 pub mod Behind
+pub mod Orders
 pub mod Scripts
 pub mod Servers
 pub mod Plans
