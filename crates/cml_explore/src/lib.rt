@@ -7,11 +7,8 @@ mod ends;
 mod explored;
 mod finish;
 pub mod law;
-<<<<<<< HEAD
-mod outcome;
-=======
 mod orders;
->>>>>>> fc42337de1a26e011d01400b0429167ab8bca009
+mod outcome;
 mod rank;
 mod share;
 mod sight;
@@ -25,11 +22,8 @@ pub use classes::{Class, Classes};
 pub use cml_seed::Order;
 pub use ends::{EndTold, EndsTold, gather_ends, tell_ends};
 pub use explored::{Asked, Explored, Until, explore};
-<<<<<<< HEAD
-pub use outcome::{Outcome, ThreadEnd, outcome_by};
-=======
 pub use orders::Orders;
->>>>>>> fc42337de1a26e011d01400b0429167ab8bca009
+pub use outcome::{Outcome, ThreadEnd, outcome_by};
 pub use summary::Summary;
 pub use tell::tell_runs;
 pub use told::{ClassTold, RunTold, RunsTold, ThreadLeft, ThreadState};

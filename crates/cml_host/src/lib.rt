@@ -10,11 +10,8 @@ mod file;
 mod item;
 mod json;
 mod opening;
-<<<<<<< HEAD
-mod outcomes;
-=======
 mod order;
->>>>>>> fc42337de1a26e011d01400b0429167ab8bca009
+mod outcomes;
 mod output;
 mod picture;
 mod reason;
