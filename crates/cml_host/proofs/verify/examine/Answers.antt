@@ -8,7 +8,7 @@ returns-clause-found c =
     let p = c.args.script.now.program in
     record {
       verdict = c.in_ok-verdict.verdict;
-      found = c.in_ok-verdict.ensures;
+      found = c.in_ok-verdict.ensures.found;
       reach_is = refl;
       gathered = rw c.as_slice.ensures.value at c.in_ok-made.ensures;
       told_are = c.in_ok-told.ensures.told;
