@@ -1,5 +1,4 @@
-use Rattle.std.proofs.Common.{◌∙◌, ap, arith, map, take_all}
-use Rattle.cml_host.specs.Outcomes.{files_of, plain_outcome_told}
+use Rattle.std.proofs.Common.{arith}
 use Rattle.cml_host.proofs.OutcomeLemmas.{outcome_next}
 use Rattle.cml_host.proofs.outcomes.files_of.Goals as goal
 

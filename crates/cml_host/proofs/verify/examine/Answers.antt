@@ -1,6 +1,4 @@
-use Rattle.std.proofs.Common.{List, map, refl, subst}
-use Rattle.cml_explore.specs.Ends.{IsGathered}
-use Rattle.cml_host.specs.Verified.{ends_of}
+use Rattle.std.proofs.Common.{refl}
 use Rattle.cml_host.proofs.verify.examine.Goals as goal
 
 pub returns-clause-found : goal.returns-clause-found
