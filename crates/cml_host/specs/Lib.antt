@@ -22,3 +22,4 @@ pub mod Verified
 pub mod Shrunk
 pub mod Stepped
 pub mod Statuses
+pub mod Laws
