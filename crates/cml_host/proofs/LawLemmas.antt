@@ -30,5 +30,5 @@ text_is p schedule e text ends gives =
 pub none_left_out : NoOutcomeIsLeftOut
 none_left_out p bound states most schedules told verdict are schedule e within ends =
     let one = verdict.all schedule e within ends in
-    let met = All-contains _ schedules one.0 are.all one.1 in
+    let met = All-contains (λ s. (t : PlainOutcomeTold) × Contains told t × GivesText p s t.text × (length t.schedule ≤ length s)) schedules one.0 are.all one.1 in
     (met.0, met.1, text_is p one.0 e met.0.text one.2 met.2, omega (arith, met.3, one.3))
