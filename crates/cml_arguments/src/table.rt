@@ -211,7 +211,7 @@ fn verify<'a>(alloc: Global) -> Made<'a>
     let about = "Examines every schedule of a script, and says how they end";
     let states = states(alloc).help("How many states it may keep, 1 to 100000000 [default: 20000]");
     let save = option(alloc, "save", "PREFIX").help(
-        "Saves the shortest schedule of each kind of end, as PREFIX-1.schedule and so on",
+        "Saves the shortest schedule of each kind of end or outcome, as PREFIX-1.schedule and so on",
     );
     let outcomes = flag_of(alloc, "outcomes").help(
         "Writes each outcome once, with what is printed and how each thread ends, as a line of JSON",

@@ -1,16 +1,17 @@
 -- Schedules that are kept by what they give, one noted after another.
-use Rattle.std.proofs.Common.{◌≡◌, ◌≢◌, ◌∙◌, ◌⊎◌, inl, inr, ℕ, ◌+◌, ◌<◌, ◌≤◌, nat_le, Bool, true, false, cond, List, [], ◌∷◌, ◌++◌, length, map, take, get_or, refl, sym, ap, subst, arith}
-use Rattle.std.specs.Prelude.{Option, Some, None, IfSome, option_map, option_copied, Vec, Contains, slice_get, Bor}
-use Rattle.std.specs.BTreeMap.{BTreeMap, IsOrdered, get_by, insert_entry, is_at}
+use Rattle.std.proofs.Common.{Bor, ◌≡◌, ◌≢◌, ◌∙◌, ◌⊎◌, inl, inr, ℕ, zero, suc, ◌+◌, ◌<◌, ◌≤◌, true, false, cond, List, [], ◌∷◌, ◌++◌, length, map, take, get_or, refl, sym, ap, subst, arith}
+use Rattle.std.specs.Prelude.{Option, Some, None, IfSome, option_map, Vec, Contains, slice_get}
+use Rattle.std.specs.BTreeMap.{IsOrdered, get_by, insert_entry, is_at}
 use Rattle.std.specs.Cmp.Lexicographic.{slice_cmp, nat_list_cmp_total}
-use Rattle.std.specs.List.{All, AllByRecursion}
+use Rattle.std.specs.List.{AllByRecursion}
 use Rattle.std.specs.List.Sorted.{IsStrictlySortedBy}
 use Rattle.std.specs.Map.{keys_of, lookup}
+use Rattle.std.specs.Option.{option_copied}
 use Rattle.std.specs.Ordering.{is_eq, match_ordering, nat_cmp}
 use Rattle.std.specs.declared.alloc.Global.{Global}
 use Rattle.std.specs.declared.cmp.Ordering.{Ordering}
 use Rattle.std.specs.declared.cmp.Ordering.TheVariants.{Less, Equal, Greater}
-use Rattle.std.proofs.lemmas.Bool.{false≢true}
+use Rattle.std.proofs.lemmas.Bool.{false≢true, leb-false, leb-true}
 use Rattle.std.proofs.lemmas.Cmp.{on_total, tied_itself}
 use Rattle.std.proofs.lemmas.List.{map_push, take_more}
 use Rattle.std.proofs.lemmas.List.Elements.{All-contains_itself, All-map, All-nil, All-push, All-weaker, Contains-append_left, Contains-push}
@@ -90,11 +91,8 @@ module _ (key : Text) (value : Kept) (other : List ℕ) (apart : other ≢ key.i
 
 -- ---- a schedule is noted
 
-nat_le_says : (m n : ℕ) → nat_le m n ≡ true → m ≤ n
-nat_le_says m n e = grind (arith)
-
-nat_le_not : (m n : ℕ) → nat_le m n ≡ false → n ≤ m
-nat_le_not m n e = grind (arith)
+no_longer : (schedule : List Item) → length schedule ≤ length schedule
+no_longer schedule = omega arith
 
 kept_so : (found : TextMap) (text : List ℕ) (schedule : List Item) (o : Option (List Item)) → kept_by found text ≡ o → is_as_short o (length schedule) ≡ true → Notes found text schedule found
 kept_so found text schedule None is short = absurd (false≢true short)
@@ -102,8 +100,8 @@ kept_so found text schedule (Some kept) is short = record {
   kept = kept;
   here = is;
   one = inr is;
-  short = nat_le_says (length kept) (length schedule) short;
-  shorter = subst (λ (o : Option (List Item)). IfSome o (λ before. length kept ≤ length before)) (sym is) (omega arith);
+  short = leb-true (length kept) (length schedule) short;
+  shorter = subst (λ (o : Option (List Item)). IfSome o (λ before. length kept ≤ length before)) (sym is) (no_longer kept);
   others = λ other apart. refl;
 }
 
@@ -113,7 +111,7 @@ stays_noted found text schedule short = kept_so found text schedule (kept_by fou
 
 not_shorter : (o : Option (List Item)) (schedule : List Item) → is_as_short o (length schedule) ≡ false → IfSome o (λ before. length schedule ≤ length before)
 not_shorter None schedule long = tt
-not_shorter (Some before) schedule long = nat_le_not (length before) (length schedule) long
+not_shorter (Some before) schedule long = let less = leb-false (length before) (length schedule) long in omega (arith, less)
 
 -- this one is kept
 pub newly_noted : (old new : TextMap) (key : Text) (value : Kept) (schedule : List Item) → value.items ≡ schedule → is_as_short (kept_by old key.items) (length schedule) ≡ false
@@ -122,7 +120,7 @@ newly_noted old new key value schedule same long here entries = record {
   kept = schedule;
   here = ap (option_map (λ (s : Kept). s.items)) here ∙ ap Some same;
   one = inl refl;
-  short = omega arith;
+  short = no_longer schedule;
   shorter = not_shorter (kept_by old key.items) schedule long;
   others = λ other apart. ap (option_map (λ (s : Kept). s.items)) (ap (lookup (is_at (at_bytes other))) entries ∙ others_stay key value other apart old.entries);
 }
@@ -234,10 +232,13 @@ module _ (p : List (PlainItem ℕ)) (schedules : List (List Item)) (found : Text
         subst (λ (k : List Item). length k ≤ length s) (sym value.2) met.4,
       )
 
-  pub outcomes_of : (told : List PlainOutcomeTold) → told ≡ map entry_told found.entries → AreOutcomes p schedules told
-  outcomes_of told is = subst (λ (ts : List PlainOutcomeTold). AreOutcomes p schedules ts) (sym is) (record {
+  outcomes_are : AreOutcomes p schedules (map entry_told found.entries)
+  outcomes_are = record {
     each = All-map (λ (t : PlainOutcomeTold). Contains schedules t.schedule × GivesText p t.schedule t.text) entry_told found.entries
         (All-weaker (Contains found.entries) IsOne entry_is found.entries (All-contains_itself found.entries));
     all = All-weaker (λ s. (text : List ℕ) × (kept : List Item) × (kept_by found text ≡ Some kept) × GivesText p s text × (length kept ≤ length s)) IsTold told_one schedules are.all;
     ordered = in_order found.entries ordered;
-  })
+  }
+
+  pub outcomes_of : (told : List PlainOutcomeTold) → told ≡ map entry_told found.entries → AreOutcomes p schedules told
+  outcomes_of told is = subst (λ (ts : List PlainOutcomeTold). AreOutcomes p schedules ts) (sym is) outcomes_are

@@ -22,3 +22,4 @@ mod SteppedLemmas
 mod OutcomeLemmas
 mod FoundLemmas
 mod VerifyLemmas
+mod LawLemmas

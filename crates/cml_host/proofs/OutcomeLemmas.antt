@@ -1,6 +1,6 @@
 -- How every schedule's outcome is told, one thing after another.
-use Rattle.std.proofs.Common.{◌≡◌, ◌∙◌, ℕ, zero, suc, ◌+◌, ◌<◌, List, [], ◌∷◌, ◌++◌, length, map, take, get_or, codes, refl, sym, ap, arith, append_assoc, append-nil, add-zero}
-use Rattle.std.specs.Prelude.{Vec}
+use Rattle.std.proofs.Common.{◌≡◌, ◌∙◌, ℕ, zero, suc, ◌+◌, ◌<◌, true, List, [], ◌∷◌, ◌++◌, length, map, take, get_or, codes, refl, sym, ap, arith, append_assoc, append-nil, add-zero}
+use Rattle.std.specs.Prelude.{Option, Some, None, Vec}
 use Rattle.std.specs.Fmt.{decimal}
 use Rattle.std.specs.List.{flat_map}
 use Rattle.std.specs.declared.alloc.Global.{Global}
@@ -12,10 +12,13 @@ use Rattle.cml_schedule.specs.Written.{schedule_text}
 use Rattle.cml_schedule.specs.declared.item.Item.{Item}
 use Rattle.cml_text.specs.Lines.{line}
 use Rattle.cml_host.specs.Json.{behind_comma, commas, member, object}
-use Rattle.cml_host.specs.Outcomes.{PlainOutcomeTold, files_of, outcome_file, plain_outcome_told}
+use Rattle.cml_host.specs.Outcomes.{PlainOutcomeTold, files_of, outcome_file, plain_outcome_told, search_line}
 use Rattle.cml_host.specs.Replies.{File, file, plain_file}
 use Rattle.cml_host.specs.declared.outcomes.OutcomeTold.{OutcomeTold}
 use Rattle.cml_host.specs.declared.reply.File as code
+
+some_same : {X : Type 0} (x y : X) → Some x ≡ Some y → x ≡ y
+some_same x y h = cc
 
 -- ---- lists, one more
 
@@ -70,6 +73,24 @@ two_members lines threads =
 -- an outcome, as it is written
 pub told_written : (old text number : List ℕ) → ((old ++ 123 ∷ []) ++ text) ++ (codes ",\"items\":" ++ number ++ codes "}\n") ≡ old ++ line (object (text ∷ member (codes "items") number ∷ []))
 told_written old text number = simp (append_assoc, append-nil) refl
+
+closed : (one two : List ℕ) → one ++ (two ++ 125 ∷ 10 ∷ []) ≡ ((one ++ two) ++ 125 ∷ []) ++ 10 ∷ []
+closed one two = sym (append_assoc (one ++ two) (125 ∷ []) (10 ∷ []) ∙ append_assoc one two (125 ∷ 10 ∷ []))
+
+closed_more : (one two three : List ℕ) → one ++ (two ++ (three ++ 125 ∷ 10 ∷ [])) ≡ ((one ++ (two ++ (three ++ []))) ++ 125 ∷ []) ++ 10 ∷ []
+closed_more one two three = simp (append_assoc, append-nil) refl
+
+-- the line of a search, as it is written
+pub search_whole : (states : ℕ) (reach : Option ℕ) → reach ≡ None → codes "{\"states\":" ++ decimal states ++ codes ",\"whole\":true}\n" ≡ search_line states reach
+search_whole states None is = ap (λ t. codes "{\"states\":" ++ t) (closed (decimal states) (codes ",\"whole\":true"))
+search_whole states (Some items) is = absurd (cc)
+
+pub search_part : (states items : ℕ) (reach : Option ℕ) → reach ≡ Some items
+    → codes "{\"states\":" ++ (decimal states ++ (codes ",\"whole\":false,\"items\":" ++ (decimal items ++ codes "}\n"))) ≡ search_line states reach
+search_part states items None is = absurd (cc)
+search_part states items (Some n) is =
+    ap (λ t. codes "{\"states\":" ++ t) (closed_more (decimal states) (codes ",\"whole\":false,\"items\":") (decimal items))
+    ∙ ap (λ k. search_line states (Some k)) (sym (some_same n items is))
 
 -- ---- files
 

@@ -23,3 +23,4 @@ pub mod Verified
 pub mod Shrunk
 pub mod Stepped
 pub mod Statuses
+pub mod Laws

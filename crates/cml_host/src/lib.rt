@@ -9,6 +9,7 @@ mod explore;
 mod file;
 mod item;
 mod json;
+pub mod law;
 mod opening;
 mod order;
 mod outcomes;

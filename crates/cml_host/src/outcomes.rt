@@ -109,12 +109,7 @@ fn is_as_short(known: Option<&Vec<Item>>, items: usize) -> bool
 }
 
 // Keeps the schedule by what it gives, unless one is kept that gives that and has no more items.
-fn note(
-    alloc: Global,
-    found: &mut ByText,
-    text: Vec<u8>,
-    items: &[Item],
-) -> Result<(), AllocError>
+fn note(alloc: Global, found: &mut ByText, text: Vec<u8>, items: &[Item]) -> Result<(), AllocError>
     ensures { OnOk result (Notes found.old text.items items.now found.new) }
 {
     if is_as_short(found.get(&text), items.len()) {
@@ -126,12 +121,7 @@ fn note(
 }
 
 // Keeps the schedule by what it gives.
-fn add(
-    alloc: Global,
-    found: &mut ByText,
-    program: &Prog,
-    items: &[Item],
-) -> Result<(), AllocError>
+fn add(alloc: Global, found: &mut ByText, program: &Prog, items: &[Item]) -> Result<(), AllocError>
     ensures { OnOk result ((text : List ℕ) × GivesText program.now items.now text × Notes found.old text items.now found.new) }
 {
     let outcome = outcome_by(alloc, program, items)?;
@@ -141,11 +131,7 @@ fn add(
 }
 
 // A schedule for all that these give.
-fn find(
-    alloc: Global,
-    program: &Prog,
-    schedules: &[Vec<Item>],
-) -> Result<ByText, AllocError>
+fn find(alloc: Global, program: &Prog, schedules: &[Vec<Item>]) -> Result<ByText, AllocError>
     ensures { IfOk result (AreFound program.now (map (λ schedule. schedule.items) schedules.now)) }
 {
     let mut found = BTreeMap::new(alloc);

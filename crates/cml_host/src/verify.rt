@@ -103,12 +103,7 @@ fn verify_program(
 }
 
 // A search of every schedule of the program, which looks at what was printed, or not.
-fn search(
-    alloc: Global,
-    program: &Prog,
-    bound: usize,
-    with_output: bool,
-) -> Result<Verdict, Gap>
+fn search(alloc: Global, program: &Prog, bound: usize, with_output: bool) -> Result<Verdict, Gap>
     requires { 0 < bound }
     ensures { IfOk result (λ v. IsVerdict program.now with_output bound v.reach (ends_of v) v.states) }
 {
@@ -164,7 +159,14 @@ fn tell_outcomes(
     let told = gather_outcomes(alloc, program, schedules)?;
     let status = verdict_status(verdict.reach, made.is_well());
     drop(made);
-    Ok(reply_outcomes(alloc, program, options.save, &verdict, told.as_slice(), status)?)
+    Ok(reply_outcomes(
+        alloc,
+        program,
+        options.save,
+        &verdict,
+        told.as_slice(),
+        status,
+    )?)
 }
 
 // What is replied of these outcomes, with a schedule of each, where that is asked for.

@@ -63,4 +63,4 @@ loop-count-preserved g c =
 pub returns-clause-ok : goal.returns-clause-ok
 returns-clause-ok g c =
     told_all c.args.hub.now c.args.items.now c.loop-count.count c.loop-count.hub (passage g.O.Write.contents c.args.out.now c.loop-count.out)
-        (omega arith) c.loop-count.invariant.goes c.loop-count.invariant.fine
+    (omega arith) c.loop-count.invariant.goes c.loop-count.invariant.fine

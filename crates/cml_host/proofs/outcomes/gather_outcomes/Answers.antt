@@ -8,5 +8,5 @@ pub returns : goal.returns
 returns c =
     IfOk-weaker c.listed.result _ _
     (λ told is. outcomes_of c.args.program.now (map
-        (λ schedule. schedule.items) c.args.schedules.now) c.in_ok-found.found c.in_ok-found.ensures c.listed.ensures.ordered (map plain_outcome_told told.items) is)
+    (λ schedule. schedule.items) c.args.schedules.now) c.in_ok-found.found c.in_ok-found.ensures c.listed.ensures.ordered (map plain_outcome_told told.items) is)
     c.listed.ensures.told

@@ -24,6 +24,6 @@ returns-in-Err-clause-ran g c =
     let errors = passage g.E.Write.contents c.args.err.now c.carry_out.new.err in
     let file = c.args.options.now.file.now in
     inr (
-      refused_behind (IsNoScript c.args.explains file (g.S.Store.holds c.args.store.now file)) c.in-Err.why output errors (g.S.Store.holds c.args.store.now)
-          (g.S.Store.holds c.open_script.new.store) (g.S.Store.holds c.carry_out.new.store) c.carry_out.result c.in-Err.ensures.err c.open_script.ensures.same c.carry_out.ensures.carried
+    refused_behind (IsNoScript c.args.explains file (g.S.Store.holds c.args.store.now file)) c.in-Err.why output errors (g.S.Store.holds c.args.store.now)
+    (g.S.Store.holds c.open_script.new.store) (g.S.Store.holds c.carry_out.new.store) c.carry_out.result c.in-Err.ensures.err c.open_script.ensures.same c.carry_out.ensures.carried
     )
