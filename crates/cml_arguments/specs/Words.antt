@@ -146,10 +146,10 @@ shrink_command = command_of (codes "shrink") (file_rule (codes "FILE") ∷ file_
 abbrev pub step_command : Shape
 step_command = command_of (codes "step") (file_rule (codes "FILE") ∷ option_rule (codes "record") ∷ [])
 
--- the program, with its commands, of which one must be named
+-- the program, with its commands, of which one must be named; it has a version
 abbrev pub commands : App
 commands = record {
-  top = record (new_app (codes "cml")).top { subcommand_required = true; is_leaf = false };
+  top = record (new_app (codes "cml")).top { subcommand_required = true; is_leaf = false; has_version = true };
   subs = trace_command
       ∷ file_command (codes "check")
       ∷ file_command (codes "fmt")
