@@ -404,8 +404,11 @@ SavesOver start name = (digits : List ℕ) × (list_all is_ascii_digit digits �
 abbrev pub start_of : Text → Bool → Text
 start_of start well = start ++ (if well then codes "-good" else codes "-bad")
 
+abbrev pub SavedOdds : Text → Text → List ℕ → Type 0
+SavedOdds start script told = SavesOver start script × (told ≡ would_replace (codes "--save") script)
+
 abbrev pub KindsOdds : Text → Text → List ℕ → Type 0
-KindsOdds start script told = (SavesOver (start_of start false) script ⊎ SavesOver (start_of start true) script) × (told ≡ would_replace (codes "--save") script)
+KindsOdds start script = OrElse (SavedOdds (start_of start false) script) (SavedOdds (start_of start true) script)
 
 -- a word of `--until` means nothing; the order of the turns is said in two ways; there are fewer seeds than runs; or a file that is saved would
 -- replace the script
