@@ -218,14 +218,21 @@ fn save_odds(
 fn kinds_odds(alloc: Global, start: &str, script: &str) -> Result<Option<String>, AllocError>
     ensures { IfOk result (λ told. ToldOdds (KindsOdds start.now script.now) (option_map (λ text. string_bytes text) told)) }
 {
-    let bad = format!(in alloc; "{start}-bad")?;
-    match saved_odds(alloc, bad.as_str(), script)? {
+    match bad_odds(alloc, start, script)? {
         Some(told) => Ok(Some(told)),
         None => good_odds(alloc, start, script),
     }
 }
 
-// The same of good classes alone.
+// The same of bad classes alone.
+fn bad_odds(alloc: Global, start: &str, script: &str) -> Result<Option<String>, AllocError>
+    ensures { IfOk result (λ told. ToldOdds (SavedOdds (start_of start.now false) script.now) (option_map (λ text. string_bytes text) told)) }
+{
+    let bad = format!(in alloc; "{start}-bad")?;
+    saved_odds(alloc, bad.as_str(), script)
+}
+
+// And of good classes alone.
 fn good_odds(alloc: Global, start: &str, script: &str) -> Result<Option<String>, AllocError>
     ensures { IfOk result (λ told. ToldOdds (SavedOdds (start_of start.now true) script.now) (option_map (λ text. string_bytes text) told)) }
 {
