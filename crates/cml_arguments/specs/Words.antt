@@ -1,5 +1,6 @@
 -- What the arguments of the command line ask for, as clap reads them.
-use Rattle.std.specs.Prelude.{◌≡◌, ◌≢◌, ◌<◌, ◌+◌, ◌^◌, ◌⊎◌, ◌&&◌, ◌||◌, if◌then◌else◌, ℕ, Bool, true, false, not, Option, Some, None, IfSome, IsSomeAnd, List, [], ◌∷◌, ◌++◌, codes, find, is_some, map, nat_lt, slice_get, option_map, unwrap_or}
+use Rattle.std.specs.Prelude.{◌≡◌, ◌≢◌, ◌<◌, ◌+◌, ◌^◌, ◌⊎◌, ◌&&◌, ◌||◌, if◌then◌else◌, ℕ, Bool, true, false, not, Option, Some, None}
+use Rattle.std.specs.Prelude.{IfSome, IsSomeAnd, List, [], ◌∷◌, ◌++◌, codes, find, is_some, map, nat_lt, slice_get, option_map, unwrap_or}
 use Rattle.std.specs.List.{list_all, list_any}
 use Rattle.std.specs.Int.{IsInRange}
 use Rattle.std.specs.Option.{option_map_or}
@@ -121,7 +122,8 @@ file_command name = command_of name (file_rule (codes "FILE") ∷ explain_rules)
 
 abbrev pub run_command : Shape
 run_command = command_of (codes "run")
-    (file_rule (codes "FILE") ∷ workers_rule (codes "workers") ∷ count_rule (codes "steps") ∷ any_rule (codes "seed") ∷ count_rule (codes "watch") ∷ option_rule (codes "record") ∷ option_rule (codes "draw") ∷ order_rules ++ (end_rules ++ explain_rules))
+    (file_rule (codes "FILE") ∷ workers_rule (codes "workers") ∷ count_rule (codes "steps") ∷ any_rule (codes "seed") ∷ count_rule (codes "watch")
+    ∷ option_rule (codes "record") ∷ option_rule (codes "draw") ∷ order_rules ++ (end_rules ++ explain_rules))
 
 abbrev pub replay_command : Shape
 replay_command = command_of (codes "replay") (file_rule (codes "FILE") ∷ file_rule (codes "SCHEDULE") ∷ count_rule (codes "watch") ∷ end_rules ++ explain_rules)
@@ -132,7 +134,8 @@ part_command name = command_of name (file_rule (codes "FILE") ∷ file_rule (cod
 
 abbrev pub explore_command : Shape
 explore_command = command_of (codes "explore")
-    (file_rule (codes "FILE") ∷ runs_rule (codes "runs") ∷ any_rule (codes "seed") ∷ count_rule (codes "steps") ∷ workers_rule (codes "workers") ∷ flag_rule (codes "picks") ∷ order_rules ++ finding_rules)
+    (file_rule (codes "FILE") ∷ runs_rule (codes "runs") ∷ any_rule (codes "seed") ∷ count_rule (codes "steps") ∷ workers_rule (codes "workers")
+    ∷ flag_rule (codes "picks") ∷ order_rules ++ finding_rules)
 
 abbrev pub verify_command : Shape
 verify_command =
@@ -145,10 +148,10 @@ shrink_command = command_of (codes "shrink") (file_rule (codes "FILE") ∷ file_
 abbrev pub step_command : Shape
 step_command = command_of (codes "step") (file_rule (codes "FILE") ∷ option_rule (codes "record") ∷ [])
 
--- the program, with its commands, of which one must be named
+-- the program, with its commands, of which one must be named; it has a version
 abbrev pub commands : App
 commands = record {
-  top = record (new_app (codes "cml")).top { subcommand_required = true; is_leaf = false };
+  top = record (new_app (codes "cml")).top { subcommand_required = true; is_leaf = false; has_version = true };
   subs = trace_command
       ∷ file_command (codes "check")
       ∷ file_command (codes "fmt")
@@ -404,8 +407,11 @@ SavesOver start name = (digits : List ℕ) × (list_all is_ascii_digit digits �
 abbrev pub start_of : Text → Bool → Text
 start_of start well = start ++ (if well then codes "-good" else codes "-bad")
 
+abbrev pub SavedOdds : Text → Text → List ℕ → Type 0
+SavedOdds start script told = SavesOver start script × (told ≡ would_replace (codes "--save") script)
+
 abbrev pub KindsOdds : Text → Text → List ℕ → Type 0
-KindsOdds start script told = (SavesOver (start_of start false) script ⊎ SavesOver (start_of start true) script) × (told ≡ would_replace (codes "--save") script)
+KindsOdds start script = OrElse (SavedOdds (start_of start false) script) (SavedOdds (start_of start true) script)
 
 -- a word of `--until` means nothing; the order of the turns is said in two ways; there are fewer seeds than runs; or a file that is saved would
 -- replace the script

@@ -1,8 +1,8 @@
 //! What is said of the options of a command that can't be used together.
 
-ghost use Rattle.std.specs.{Prelude.{◌≡◌, ◌↔◌, ◌<◌, ◌-◌, false, is_some, option_map, IfOk, IsTrue, List, MatchOption, Some, ℕ}, Char.{is_ascii_digit}};
+ghost use Rattle.std.specs.{Prelude.{◌≡◌, ◌↔◌, ◌<◌, ◌-◌, false, true, is_some, option_map, IfOk, IsTrue, List, MatchOption, Some, ℕ}, Char.{is_ascii_digit}};
 ghost use Rattle.std.specs.{List.{list_all, list_any}, String.{string_bytes}};
-ghost use Rattle.cml_arguments.specs.Words.{saved_end, saved_name, AreOdds, Clash, DepthOdds, DrawnOdds, ExplainsLive, ExploreOdds, KindsOdds, LastOdds, OrderOdds, OverOdds, OverRecord, PassesTheLast, PicksOdds, ReplacedOdds, Replaces, RunOdds, SaveOdds, SavesOver, SeedsOdds, StepOdds, ToldOdds, TraceOdds, TurnsOdds, UntilOdds, VerifyOdds, WatchOdds, WorkersOdds};
+ghost use Rattle.cml_arguments.specs.Words.{saved_end, saved_name, start_of, AreOdds, Clash, DepthOdds, DrawnOdds, ExplainsLive, ExploreOdds, KindsOdds, LastOdds, OrderOdds, OverOdds, OverRecord, PassesTheLast, PicksOdds, ReplacedOdds, Replaces, RunOdds, SaveOdds, SavedOdds, SavesOver, SeedsOdds, StepOdds, ToldOdds, TraceOdds, TurnsOdds, UntilOdds, VerifyOdds, WatchOdds, WorkersOdds};
 ghost use Rattle.cml_arguments.specs.Words as spec;
 
 use crate::{
@@ -218,9 +218,33 @@ fn save_odds(
 fn kinds_odds(alloc: Global, start: &str, script: &str) -> Result<Option<String>, AllocError>
     ensures { IfOk result (λ told. ToldOdds (KindsOdds start.now script.now) (option_map (λ text. string_bytes text) told)) }
 {
+    match bad_odds(alloc, start, script)? {
+        Some(told) => Ok(Some(told)),
+        None => good_odds(alloc, start, script),
+    }
+}
+
+// The same of bad classes alone.
+fn bad_odds(alloc: Global, start: &str, script: &str) -> Result<Option<String>, AllocError>
+    ensures { IfOk result (λ told. ToldOdds (SavedOdds (start_of start.now false) script.now) (option_map (λ text. string_bytes text) told)) }
+{
     let bad = format!(in alloc; "{start}-bad")?;
+    saved_odds(alloc, bad.as_str(), script)
+}
+
+// And of good classes alone.
+fn good_odds(alloc: Global, start: &str, script: &str) -> Result<Option<String>, AllocError>
+    ensures { IfOk result (λ told. ToldOdds (SavedOdds (start_of start.now true) script.now) (option_map (λ text. string_bytes text) told)) }
+{
     let good = format!(in alloc; "{start}-good")?;
-    if saves_over(bad.as_str(), script) || saves_over(good.as_str(), script) {
+    saved_odds(alloc, good.as_str(), script)
+}
+
+// The same of files whose names begin so.
+fn saved_odds(alloc: Global, start: &str, script: &str) -> Result<Option<String>, AllocError>
+    ensures { IfOk result (λ told. ToldOdds (SavedOdds start.now script.now) (option_map (λ text. string_bytes text) told)) }
+{
+    if saves_over(start, script) {
         Ok(Some(would_replace(alloc, "--save", script)?))
     } else {
         Ok(None)

@@ -10,6 +10,9 @@ use std::alloc::{AllocError, Global};
 // A command, where there was memory to make it.
 type Made<'a> = Result<Command<'a>, AllocError>;
 
+// The day of the newest entry of CHANGELOG.md.
+const VERSION: &str = "2026-11-30";
+
 // The most steps or items that an option counts.
 const MOST: i64 = 1_000_000_000;
 
@@ -34,6 +37,7 @@ pub fn command<'a>(alloc: Global) -> Result<Command<'a>, AllocError>
 {
     let program = Command::new(alloc, "cml")
         .about("Events of Concurrent ML: answers traces of commands, and checks and runs scripts")
+        .version(VERSION)
         .subcommand_required(true);
     let program = with_command(Ok(program), trace(alloc));
     let program = with_command(program, file_alone(alloc, "check", "Checks a script"));
