@@ -1,0 +1,18 @@
+-- The value of a line, by what reading it gives.
+use Rattle.std.proofs.Common.{◌≡◌, ℕ, List, [], ◌∷◌, Option, None, Result, Ok, Err}
+use Rattle.std.specs.declared.alloc.Global.{Global}
+use Rattle.std.specs.Prelude.{Vec}
+use Rattle.cml_text.specs.Answers.{ReadsAs}
+use Rattle.cml_text.specs.Forms.{PlainSexpr}
+use Rattle.cml_text.specs.Texts.{Spells}
+use Rattle.cml_text.specs.declared.fault.FaultKind.{FaultKind}
+use Rattle.cml_text.specs.declared.fault.TextFault.{TextFault}
+use Rattle.cml_text.specs.declared.fault.TextFault.TheVariants.{At}
+use Rattle.cml_properties.specs.Lines.{IsValueOf, only}
+
+-- of the forms that it spells
+pub value_of_forms : (text : List ℕ) (forms : List PlainSexpr) → Spells text forms → ((others : List PlainSexpr) → Spells text others → forms ≡ others) →
+    IsValueOf text (only forms)
+value_of_forms text [] spells same = λ form one. let clash : [] ≡ form ∷ [] = same (form ∷ []) one in cc
+value_of_forms text (form ∷ []) spells same = spells
+value_of_forms text (form ∷ next ∷ forms) spells same = λ other one. let clash : form ∷ next ∷ forms ≡ other ∷ [] = same (other ∷ []) one in cc
