@@ -1,5 +1,5 @@
 -- How lines are read one after another.
-use Rattle.std.proofs.Common.{◌≡◌, ℕ, ◌+◌, ◌≤◌, ◌==◌, suc, Bool, true, false, cond, List, [], ◌∷◌, ◌++◌, length, Option, Some, None, Result, Ok, Err, refl, ap, sym, ◌∙◌, subst, arith, inl, inr}
+use Rattle.std.proofs.Common.{◌≡◌, ℕ, ◌+◌, ◌-◌, ◌≤◌, ◌==◌, suc, Bool, true, false, cond, List, [], ◌∷◌, ◌++◌, length, take, drop, Option, Some, None, Result, Ok, Err, refl, ap, sym, ◌∙◌, subst, arith, inl, inr}
 use Rattle.std.specs.Prelude.{◌<◌, MatchBool, Vec}
 use Rattle.std.specs.declared.alloc.Global.{Global}
 use Rattle.std.proofs.lemmas.Bool.{le-ltb, lt-ltb}
@@ -11,10 +11,14 @@ use Rattle.cml_properties.specs.declared.fault.PropertyFaultKind.TheVariants.{Te
 use Rattle.std.specs.Prelude.{option_to_list}
 use Rattle.std.specs.List.{sum_by, onto_first}
 use Rattle.std.proofs.lemmas.List.Sums.{sum_by-cons}
+use Rattle.std.specs.List.{prefix_len}
+use Rattle.cml_text.specs.Lexemes.{is_token_byte}
 use Rattle.cml_text.specs.Lines.{lines}
+use Rattle.cml_properties.specs.Kinds.{kind_of}
+use Rattle.cml_properties.specs.declared.kind.PropertyKind.{PropertyKind}
 use Rattle.cml_properties.specs.declared.property.Property.{Property}
 use Rattle.cml_properties.specs.declared.fault.PropertyFault.{PropertyFault}
-use Rattle.cml_properties.specs.Reading.{is_blank_line, LineGives, said, LineSays, before_others, LinesSay, TextSays, read_properties, IfTold}
+use Rattle.cml_properties.specs.Reading.{is_blank_line, line_begun, WordGives, LineGives, said, LineSays, before_others, LinesSay, TextSays, read_properties, IfTold}
 
 pub blank_says : (at : ℕ) (line : List ℕ) → is_blank_line line ≡ true → LineSays at line (Ok None)
 blank_says at line e = rw e refl
@@ -52,9 +56,9 @@ front_none (Err fault) = refl
 abbrev pub SaysOn : List ℕ → List Property → ℕ → List (List ℕ) → Type 0
 SaysOn text front at left = (others : Result (List Property) PropertyFault) → LinesSay at left others → LinesSay 0 (lines text) (with_front front others)
 
-pub says_first : (text : List ℕ) (left : List (List ℕ)) → left ≡ lines text → SaysOn text [] 0 left
-says_first text left e = λ others says.
-    subst (λ (f : Result (List Property) PropertyFault). LinesSay 0 (lines text) f) (sym (front_none others)) (subst (λ (ls : List (List ℕ)). LinesSay 0 ls others) e says)
+pub says_first : (text : List ℕ) (front : List Property) (left : List (List ℕ)) → front ≡ [] → left ≡ lines text → SaysOn text front 0 left
+says_first text front left none e = λ others says.
+    subst (λ (f : Result (List Property) PropertyFault). LinesSay 0 (lines text) f) (sym (ap (λ ps. with_front ps others) none ∙ front_none others)) (subst (λ (ls : List (List ℕ)). LinesSay 0 ls others) e says)
 
 pub says_next : (text : List ℕ) (front front' : List Property) (at : ℕ) (left : List (List ℕ)) (line : List ℕ) (behind : List (List ℕ)) (first : Option Property) →
     left ≡ line ∷ behind → front' ≡ front ++ option_to_list first → SaysOn text front at left → LineSays at line (Ok first) → SaysOn text front' (at + (length line + 1)) behind
@@ -101,3 +105,25 @@ fits_next at n left line behind e h = omega (arith, ap (sum_by (λ l. length l +
 
 pub fits_first : (text : List ℕ) (left : List (List ℕ)) → left ≡ lines text → 0 + sum_by (λ l. length l + 1) left ≤ length text + 1
 fits_first text left e = omega (arith, ap (sum_by (λ l. length l + 1)) e, lines_fit text)
+
+-- a line that is cut into its word and what stands behind it
+pub gives_at : (at : ℕ) (line start word_ behind : List ℕ) (end : ℕ) (kind : Option PropertyKind) (found : Result Property PropertyFault) →
+    start ≡ line_begun line → end ≡ prefix_len is_token_byte start → word_ ≡ take end start → behind ≡ drop end start → kind ≡ kind_of word_ →
+    WordGives kind (at + (length line - length start)) (at + (length line - length start) + end) behind found → LineGives at line found
+gives_at at line start word_ behind end kind found es ee ew eb ek gives =
+    let by_word = subst (λ (k : Option PropertyKind). WordGives k (at + (length line - length start)) (at + (length line - length start) + end) behind found) ek gives in
+    let by_take = subst (λ (w : List ℕ). WordGives (kind_of w) (at + (length line - length start)) (at + (length line - length start) + end) behind found) ew by_word in
+    let by_drop = subst (λ (r : List ℕ). WordGives (kind_of (take end start)) (at + (length line - length start)) (at + (length line - length start) + end) r found) eb by_take in
+    let by_len =
+      subst (λ (n : ℕ). WordGives (kind_of (take n start)) (at + (length line - length start)) (at + (length line - length start) + n) (drop n start) found) ee by_drop in
+    subst
+      (λ (b : List ℕ). WordGives (kind_of (take (prefix_len is_token_byte b) b)) (at + (length line - length b)) (at + (length line - length b) + prefix_len is_token_byte b)
+        (drop (prefix_len is_token_byte b) b) found)
+      es by_len
+
+-- a fault of the patterns is one of the line
+pub line_fault : (at : ℕ) (line : List ℕ) (fault : PropertyFault) (Gives : Result Property PropertyFault → Type 0) → is_blank_line line ≡ false →
+    ((found : Result Property PropertyFault) → Gives found → LineGives at line found) → IfTold {A = Property} (Err fault) Gives →
+    IfTold {A = Option Property} (Err fault) (LineSays at line)
+line_fault at line Memory Gives blank gives told = tt
+line_fault at line (At kind place) Gives blank gives told = line_says at line (Err (At kind place)) blank (gives (Err (At kind place)) told)

@@ -77,9 +77,10 @@ fn line_property(alloc: Global, at: usize, line: &[u8]) -> Result<Option<Propert
     }
     let start = at + (line.len() - begun.len());
     let end = word_len(begun);
-    match PropertyKind::of_word(&begun[..end]) {
+    let (word, behind) = begun.split_at(end);
+    match PropertyKind::of_word(word) {
         Some(kind) => {
-            let property = given(alloc, kind, start, start + end, &begun[end..])?;
+            let property = given(alloc, kind, start, start + end, behind)?;
             Ok(Some(property))
         }
         None => Err(PropertyFault::At {
@@ -93,7 +94,9 @@ fn line_property(alloc: Global, at: usize, line: &[u8]) -> Result<Option<Propert
 fn past_separators(line: &[u8]) -> &[u8]
     ensures { result.now ≡ spec.line_begun line.now }
 {
-    &line[separators_len(line)..]
+    let count = separators_len(line);
+    let (_separators, begun) = line.split_at(count);
+    begun
 }
 
 // How many separators come first.

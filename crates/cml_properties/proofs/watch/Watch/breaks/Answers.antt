@@ -7,4 +7,4 @@ returns-clause-broken c = λ lines seen. c.is_broken_by-is_broken.ensures ∙ br
 
 pub returns-clause-seen : goal.returns-clause-seen
 returns-clause-seen c =
-    λ lines seen whole. seen_more _ _ lines c.args.line.now refl c.is_marked_with.ensures (sym c.is_broken_by-is_broken.ensures ∙ whole) seen
+    λ lines seen whole. seen_more _ _ lines c.args.line.now refl c.is_marked_with-self.ensures (sym c.is_broken_by-is_broken.ensures ∙ whole) seen
