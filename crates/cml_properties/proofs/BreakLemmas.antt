@@ -1,5 +1,5 @@
 -- Where a property breaks: at one place at most, and at one where it is not kept.
-use Rattle.std.proofs.Common.{◌≡◌, ℕ, ◌+◌, ◌<◌, ◌≤◌, ◌==◌, Bool, true, false, not, cond, ◌||◌, List, [], ◌∷◌, ◌++◌, length, take, drop, get_or, Some, None, refl, ap, sym, ◌∙◌, subst, arith, inl, inr}
+use Rattle.std.proofs.Common.{◌≡◌, ℕ, ◌+◌, ◌<◌, ◌≤◌, ◌==◌, Bool, true, false, not, ◌||◌, List, [], ◌∷◌, ◌++◌, length, take, drop, get_or, Some, None, refl, ap, sym, ◌∙◌, subst, arith, inl, inr}
 use Rattle.std.specs.Prelude.{◌↔◌, IsNone, IsTrue}
 use Rattle.std.specs.List.{list_any}
 use Rattle.std.proofs.lemmas.Bool.{or_right, both_ways, not-true, not-false, cases_lt, cases_order, cond-true, cond-false, eq-eqb, ne_eqb}
@@ -12,8 +12,8 @@ use Rattle.cml_properties.specs.declared.property.Finish.TheVariants.{GoesOn}
 use Rattle.cml_properties.specs.declared.watch.Watch.{Watch}
 use Rattle.cml_properties.specs.Lines.{PlainLine}
 use Rattle.cml_properties.specs.Properties.{keeps}
-use Rattle.cml_properties.specs.Watches.{BreaksAt, HasSeen, marks, is_broken_by, is_broken_at_end}
-use Rattle.cml_properties.proofs.HoldLemmas.{line_step, end_step, kept_front, kept_sooner, not_not}
+use Rattle.cml_properties.specs.Watches.{BreaksAt, HasSeen, marks, is_broken_by}
+use Rattle.cml_properties.proofs.HoldLemmas.{line_step, kept_front, kept_sooner, not_not}
 
 -- before the first line
 pub kept_none : (property : Property) → keeps property [] GoesOn ≡ true
@@ -34,8 +34,8 @@ pub seen_more : (watch next : Watch) (lines : List PlainLine) (line : PlainLine)
     is_broken_by watch.property.now watch.marked line ≡ false → HasSeen watch lines → HasSeen next (lines ++ line ∷ [])
 seen_more watch next lines line same marked whole seen = record {
   marked =
-    marked ∙ ap (λ b. b || marks watch.property.now line) seen.marked ∙ ap (λ b. list_any (marks watch.property.now) lines || b) (sym (or_nothing (marks watch.property.now line)))
-    ∙ sym (list_any-append (marks watch.property.now) lines (line ∷ [])) ∙ ap (λ p. list_any (marks p) (lines ++ line ∷ [])) (sym same);
+      marked ∙ ap (λ b. b || marks watch.property.now line) seen.marked ∙ ap (λ b. list_any (marks watch.property.now) lines || b) (sym (or_nothing (marks watch.property.now line)))
+      ∙ sym (list_any-append (marks watch.property.now) lines (line ∷ [])) ∙ ap (λ p. list_any (marks p) (lines ++ line ∷ [])) (sym same);
   kept = ap (λ p. keeps p (lines ++ line ∷ []) GoesOn) same ∙ line_step watch.property.now lines line watch.marked seen.marked seen.kept ∙ ap not whole;
 }
 
@@ -75,7 +75,7 @@ not_kept property lines finish at b h =
     elim (cases_lt at (length lines)) [
       | inl lt ↦
           let whole : keeps property (take (at + 1) lines ++ drop (at + 1) lines) GoesOn ≡ true =
-            ap (λ xs. keeps property xs GoesOn) (take-append-drop (at + 1) lines) ∙ kept_open property lines finish h in
+          ap (λ xs. keeps property xs GoesOn) (take-append-drop (at + 1) lines) ∙ kept_open property lines finish h in
           both_ways (keeps property (take (at + 1) lines) GoesOn) (broken_line property lines finish at b lt) (kept_front property (take (at + 1) lines) (drop (at + 1) lines) whole)
       | inr le ↦ both_ways (keeps property lines finish) (broken_end property lines finish at b le) h
     ]
@@ -84,7 +84,7 @@ sooner : (property : Property) (lines : List PlainLine) (finish : Finish) (a b :
 sooner property lines finish a b x y lt =
     let within : b ≤ length lines = y.within in
     both_ways (keeps property (take (a + 1) lines) GoesOn) (broken_line property lines finish a x (omega arith))
-      (kept_sooner property lines (a + 1) b (omega arith) y.kept)
+    (kept_sooner property lines (a + 1) b (omega arith) y.kept)
 
 -- it breaks at one place
 pub breaks_once : (property : Property) (lines : List PlainLine) (finish : Finish) (a b : ℕ) → BreaksAt property lines finish a → BreaksAt property lines finish b → a ≡ b
@@ -108,8 +108,8 @@ breaks_at_end property lines finish kept broken = record {
   within = omega arith;
   kept = ap (λ xs. keeps property xs GoesOn) (take_all (length lines) lines (omega arith)) ∙ kept;
   broken =
-    ap (λ f. keeps property (take (length lines + 1) lines) f) (cond-true (length lines == length lines) finish GoesOn (eq-eqb (length lines) (length lines) refl))
-    ∙ ap (λ xs. keeps property xs finish) (take_all (length lines + 1) lines (omega arith)) ∙ broken;
+      ap (λ f. keeps property (take (length lines + 1) lines) f) (cond-true (length lines == length lines) finish GoesOn (eq-eqb (length lines) (length lines) refl))
+      ∙ ap (λ xs. keeps property xs finish) (take_all (length lines + 1) lines (omega arith)) ∙ broken;
 }
 
 -- one line more of the list
@@ -125,15 +125,15 @@ pub breaks_here : (property : Property) (watch : Watch) (lines : List PlainLine)
     watch.property.now ≡ property → HasSeen watch (take i lines) → true ≡ not (keeps watch.property.now (take i lines ++ line ∷ []) GoesOn) → BreaksAt property lines finish i
 breaks_here property watch lines finish i line lt e same seen breaks =
     breaks_at_line property lines finish i lt (ap (λ p. keeps p (take i lines) GoesOn) (sym same) ∙ seen.kept)
-      (ap (λ xs. keeps property xs GoesOn) (next_lines lines i line lt e) ∙ ap (λ p. keeps p (take i lines ++ line ∷ []) GoesOn) (sym same)
-       ∙ not-true (keeps watch.property.now (take i lines ++ line ∷ []) GoesOn) (sym breaks))
+    (ap (λ xs. keeps property xs GoesOn) (next_lines lines i line lt e) ∙ ap (λ p. keeps p (take i lines ++ line ∷ []) GoesOn) (sym same)
+    ∙ not-true (keeps watch.property.now (take i lines ++ line ∷ []) GoesOn) (sym breaks))
 
 -- where the end breaks it, and where nothing does
 pub breaks_behind : (property : Property) (watch : Watch) (lines : List PlainLine) (finish : Finish) → watch.property.now ≡ property → HasSeen watch lines →
     true ≡ not (keeps watch.property.now lines finish) → BreaksAt property lines finish (length lines)
 breaks_behind property watch lines finish same seen breaks =
     breaks_at_end property lines finish (ap (λ p. keeps p lines GoesOn) (sym same) ∙ seen.kept)
-      (ap (λ p. keeps p lines finish) (sym same) ∙ not-true (keeps watch.property.now lines finish) (sym breaks))
+    (ap (λ p. keeps p lines finish) (sym same) ∙ not-true (keeps watch.property.now lines finish) (sym breaks))
 
 pub kept_whole : (property : Property) (watch : Watch) (lines : List PlainLine) (finish : Finish) → watch.property.now ≡ property →
     false ≡ not (keeps watch.property.now lines finish) → keeps property lines finish ≡ true

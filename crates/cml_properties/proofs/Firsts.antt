@@ -24,7 +24,7 @@ before_append p [] ys = refl
 before_append p (x ∷ xs) ys =
     before_cons p x (xs ++ ys)
     ∙ one_more (p x) (list_any p xs) x (before_first p xs) (before_first p (x ∷ xs)) (before_first p (xs ++ ys)) (xs ++ before_first p ys)
-        (before_cons p x xs) (before_append p xs ys)
+    (before_cons p x xs) (before_append p xs ys)
 
 -- where none passes, all stand before
 pub before_all : {A : Type 0} (p : A → Bool) (xs : List A) → list_any p xs ≡ false → before_first p xs ≡ xs

@@ -1,5 +1,5 @@
 -- Lists that fit lists, element by element; and how deep what stands in a list is.
-use Rattle.std.proofs.Common.{◌≡◌, ◌≢◌, ℕ, zero, suc, ◌+◌, ◌<◌, ◌≤◌, max, false, ◌&&◌, List, [], ◌∷◌, length, get_or, drop, refl, ap, arith}
+use Rattle.std.proofs.Common.{◌≡◌, ◌≢◌, ℕ, zero, suc, ◌<◌, ◌≤◌, false, ◌&&◌, List, [], ◌∷◌, length, get_or, drop, refl, ap, arith}
 use Rattle.std.proofs.lemmas.Bool.{and_right}
 use Rattle.cml_text.specs.declared.sexpr.Span.{Span}
 use Rattle.cml_text.specs.Forms.{PlainSexpr, plain_name, plain_int, plain_text, plain_list, PlainForms, plain_forms, nesting, nesting_of}

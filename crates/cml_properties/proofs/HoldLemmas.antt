@@ -9,7 +9,7 @@ use Rattle.std.proofs.lemmas.List.Sums.{sum_by-append, sum_by_push}
 use Rattle.cml_properties.specs.declared.property.Property.{Property}
 use Rattle.cml_properties.specs.declared.property.Property.TheVariants.{Never, Always, Once, Before, SameLines, SameOrder, Empty}
 use Rattle.cml_properties.specs.declared.property.Finish.{Finish}
-use Rattle.cml_properties.specs.declared.property.Finish.TheVariants.{GoesOn, Emptied, HasItems}
+use Rattle.cml_properties.specs.declared.property.Finish.TheVariants.{GoesOn}
 use Rattle.cml_properties.specs.Lines.{PlainLine}
 use Rattle.cml_properties.specs.Patterns.{matches}
 use Rattle.cml_properties.specs.Properties.{keeps, is_finished, has_items}
@@ -97,7 +97,7 @@ kept_front (Once p) lines others h =
     few_front (count_by (matches p) lines) (count_by (matches p) others) (ap (λ n. leb n 1) (sym (sum_by-append (λ y. cond (matches p y) 1 0) lines others)) ∙ h)
 kept_front (Before f q) lines others h =
     before_front (matches q) (list_any (matches f) lines) (before_first (matches f) lines) lines (before_first (matches f) others) (before_all (matches f) lines)
-      (ap (λ xs. not (list_any (matches q) xs)) (sym (before_append (matches f) lines others)) ∙ h)
+    (ap (λ xs. not (list_any (matches q) xs)) (sym (before_append (matches f) lines others)) ∙ h)
 kept_front SameLines lines others h = refl
 kept_front SameOrder lines others h = refl
 kept_front Empty lines others h = refl

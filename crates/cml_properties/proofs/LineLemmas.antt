@@ -1,13 +1,7 @@
 -- The value of a line, by what reading it gives.
-use Rattle.std.proofs.Common.{◌≡◌, ℕ, List, [], ◌∷◌, Option, None, Result, Ok, Err}
-use Rattle.std.specs.declared.alloc.Global.{Global}
-use Rattle.std.specs.Prelude.{Vec}
-use Rattle.cml_text.specs.Answers.{ReadsAs}
+use Rattle.std.proofs.Common.{◌≡◌, ℕ, List, [], ◌∷◌}
 use Rattle.cml_text.specs.Forms.{PlainSexpr}
 use Rattle.cml_text.specs.Texts.{Spells}
-use Rattle.cml_text.specs.declared.fault.FaultKind.{FaultKind}
-use Rattle.cml_text.specs.declared.fault.TextFault.{TextFault}
-use Rattle.cml_text.specs.declared.fault.TextFault.TheVariants.{At}
 use Rattle.cml_properties.specs.Lines.{IsValueOf, only}
 
 -- of the forms that it spells

@@ -1,12 +1,11 @@
 -- Every text of properties says one thing.
-use Rattle.std.proofs.Common.{◌≡◌, ℕ, ◌+◌, ◌-◌, ◌⊎◌, min, Bool, true, false, List, [], ◌∷◌, length, ltb, Option, Some, None, Result, Ok, Err, refl, ap, sym, ◌∙◌, inl, inr}
+use Rattle.std.proofs.Common.{◌≡◌, ℕ, ◌+◌, ◌-◌, min, Bool, true, false, List, [], ◌∷◌, length, ltb, Option, Some, None, Result, Ok, Err, refl, ap, sym, ◌∙◌, inl, inr}
 use Rattle.std.specs.Prelude.{MatchBool}
 use Rattle.cml_text.specs.Faults.{PlainFault}
-use Rattle.cml_text.specs.Forms.{PlainSexpr}
 use Rattle.cml_text.specs.Laws.{SpelledOrFaulty, SpelledHasNoFault, SpellsOneAtMost}
 use Rattle.cml_text.specs.Lines.{lines}
 use Rattle.cml_text.specs.Sizes.{text_limit}
-use Rattle.cml_text.specs.Texts.{Spells, fault_of}
+use Rattle.cml_text.specs.Texts.{fault_of}
 use Rattle.cml_text.specs.declared.fault.FaultKind.TheVariants.{Long}
 use Rattle.cml_properties.specs.declared.kind.PropertyKind.{PropertyKind}
 use Rattle.cml_properties.specs.declared.property.Property.{Property}
@@ -16,7 +15,7 @@ use Rattle.cml_properties.specs.declared.fault.PropertyFaultKind.TheVariants.{Te
 use Rattle.cml_properties.specs.Kinds.{kind_of}
 use Rattle.cml_properties.specs.Laws.{SaysOneThing}
 use Rattle.cml_properties.specs.Reading.{made, or_count, PatternsGive, WordGives, LineGives, line_begun, word, word_len, behind_word, is_blank_line, said, LineSays, before_others}
-use Rattle.cml_properties.specs.Reading.{LinesSay, TextSays}
+use Rattle.cml_properties.specs.Reading.{LinesSay}
 
 abbrev Read : Type 0
 Read = Result Property PropertyFault

@@ -1,15 +1,12 @@
 -- A value that is printed on a line matches itself.
-use Rattle.std.proofs.Common.{◌≡◌, ℕ, ◌≤◌, Bool, true, false, ◌||◌, ◌&&◌, List, [], ◌∷◌, length, Option, Some, None, refl, ap, sym, ◌∙◌, subst}
+use Rattle.std.proofs.Common.{◌≡◌, ℕ, true, false, List, [], ◌∷◌, Option, Some, None, refl, ap, sym, ◌∙◌, subst}
 use Rattle.std.specs.Str.{bytes_eq}
-use Rattle.std.specs.Ordering.{int_eq}
 use Rattle.std.proofs.lemmas.Bool.{or_right, and_from}
 use Rattle.std.proofs.lemmas.Bool.Decides.{Decides-int_eq}
 use Rattle.std.proofs.lemmas.Slice.Eq.{bytes_eq-Decides}
 use Rattle.cml_text.specs.Forms.{PlainSexpr, plain_name, plain_int, plain_text, plain_list, PlainForms, no_forms, forms_and, plain_forms, without_spans, all_without_spans}
 use Rattle.cml_text.specs.Laws.{PrintedLineIsRead, SpellsOneAtMost}
-use Rattle.cml_text.specs.Limits.{AreWithinLimits}
 use Rattle.cml_text.specs.Printed.{printed_line}
-use Rattle.cml_text.specs.Sizes.{text_limit}
 use Rattle.cml_text.specs.Texts.{Spells}
 use Rattle.cml_properties.specs.Lines.{PlainLine, IsValueOf}
 use Rattle.cml_properties.specs.Laws.{MatchesItself}
@@ -55,5 +52,5 @@ matches_itself read once form line within short text is value =
     let found = read (form ∷ []) within short in
     let one = one_read form found.0 found.2 in
     let spells : Spells line.text (one.0 ∷ []) =
-      subst (λ (bytes : List ℕ). Spells bytes (one.0 ∷ [])) (sym is) (subst (λ (fs : List PlainSexpr). Spells (printed_line (form ∷ [])) fs) one.1 found.1) in
+    subst (λ (bytes : List ℕ). Spells bytes (one.0 ∷ [])) (sym is) (subst (λ (fs : List PlainSexpr). Spells (printed_line (form ∷ [])) fs) one.1 found.1) in
     matches_by form line text (value_fits once form one.0 line.text line.value spells one.2 value)

@@ -1,5 +1,5 @@
 -- How lines are read one after another.
-use Rattle.std.proofs.Common.{◌≡◌, ℕ, ◌+◌, ◌-◌, ◌≤◌, ◌==◌, suc, Bool, true, false, cond, List, [], ◌∷◌, ◌++◌, length, take, drop, Option, Some, None, Result, Ok, Err, refl, ap, sym, ◌∙◌, subst, arith, inl, inr}
+use Rattle.std.proofs.Common.{◌≡◌, ℕ, ◌+◌, ◌-◌, ◌≤◌, ◌==◌, suc, Bool, true, false, cond, List, [], ◌∷◌, ◌++◌, length, take, drop, Option, None, Result, Ok, Err, refl, ap, sym, ◌∙◌, subst, arith, inl, inr}
 use Rattle.std.specs.Prelude.{◌<◌, MatchBool, Vec}
 use Rattle.std.specs.declared.alloc.Global.{Global}
 use Rattle.std.proofs.lemmas.Bool.{le-ltb, lt-ltb}
@@ -65,7 +65,7 @@ pub says_next : (text : List ℕ) (front front' : List Property) (at : ℕ) (lef
 says_next text front front' at left line behind first e grown on says = λ others rest.
     let whole : LinesSay at (line ∷ behind) (before_others first others) = inr (first, others, says, rest, refl) in
     let step : LinesSay 0 (lines text) (with_front front (before_others first others)) =
-      on (before_others first others) (subst (λ (ls : List (List ℕ)). LinesSay at ls (before_others first others)) (sym e) whole) in
+    on (before_others first others) (subst (λ (ls : List (List ℕ)). LinesSay at ls (before_others first others)) (sym e) whole) in
     let same : with_front front' others ≡ with_front front (before_others first others) = ap (λ ps. with_front ps others) grown ∙ front_more front first others in
     subst (λ (f : Result (List Property) PropertyFault). LinesSay 0 (lines text) f) (sym same) step
 
@@ -96,7 +96,7 @@ says_fault text front at left line behind Memory le e on says = tt
 says_fault text front at left line behind (At kind place) le e on says =
     let whole : LinesSay at (line ∷ behind) (Err (At kind place)) = inl (At kind place, says, refl) in
     says_short text (Err (At kind place)) le
-      (on (Err (At kind place)) (subst (λ (ls : List (List ℕ)). LinesSay at ls (Err (At kind place))) (sym e) whole))
+    (on (Err (At kind place)) (subst (λ (ls : List (List ℕ)). LinesSay at ls (Err (At kind place))) (sym e) whole))
 
 -- the lines that are left stay within the text
 pub fits_next : (at n : ℕ) (left : List (List ℕ)) (line : List ℕ) (behind : List (List ℕ)) → left ≡ line ∷ behind → at + sum_by (λ l. length l + 1) left ≤ n + 1 →
@@ -115,11 +115,11 @@ gives_at at line start word_ behind end kind found es ee ew eb ek gives =
     let by_take = subst (λ (w : List ℕ). WordGives (kind_of w) (at + (length line - length start)) (at + (length line - length start) + end) behind found) ew by_word in
     let by_drop = subst (λ (r : List ℕ). WordGives (kind_of (take end start)) (at + (length line - length start)) (at + (length line - length start) + end) r found) eb by_take in
     let by_len =
-      subst (λ (n : ℕ). WordGives (kind_of (take n start)) (at + (length line - length start)) (at + (length line - length start) + n) (drop n start) found) ee by_drop in
+    subst (λ (n : ℕ). WordGives (kind_of (take n start)) (at + (length line - length start)) (at + (length line - length start) + n) (drop n start) found) ee by_drop in
     subst
-      (λ (b : List ℕ). WordGives (kind_of (take (prefix_len is_token_byte b) b)) (at + (length line - length b)) (at + (length line - length b) + prefix_len is_token_byte b)
-        (drop (prefix_len is_token_byte b) b) found)
-      es by_len
+    (λ (b : List ℕ). WordGives (kind_of (take (prefix_len is_token_byte b) b)) (at + (length line - length b)) (at + (length line - length b) + prefix_len is_token_byte b)
+    (drop (prefix_len is_token_byte b) b) found)
+    es by_len
 
 -- a fault of the patterns is one of the line
 pub line_fault : (at : ℕ) (line : List ℕ) (fault : PropertyFault) (Gives : Result Property PropertyFault → Type 0) → is_blank_line line ≡ false →

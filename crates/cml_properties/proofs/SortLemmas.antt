@@ -1,14 +1,14 @@
 -- Sorted lists of the same lines are the same list.
-use Rattle.std.proofs.Common.{◌≡◌, ◌↔◌, ℕ, zero, suc, ◌+◌, ◌<◌, ◌≤◌, Bool, true, false, cond, ◌||◌, ◌&&◌, eqb, ltb, List, [], ◌∷◌, length, get_or, map, refl, ap, sym, ◌∙◌, subst, arith, add-one}
+use Rattle.std.proofs.Common.{◌≡◌, ◌↔◌, ℕ, suc, ◌+◌, ◌<◌, Bool, true, false, cond, ◌&&◌, List, [], ◌∷◌, length, get_or, refl, ap, sym, ◌∙◌, subst, arith, add-one}
 use Rattle.std.specs.Str.{bytes_eq}
-use Rattle.std.specs.List.{count_by, list_any, Any}
+use Rattle.std.specs.List.{count_by, Any}
 use Rattle.std.specs.List.Sorted.{IsPermutation, IsSortedBy}
 use Rattle.std.specs.Cmp.{IsStrictWeakOrder}
 use Rattle.std.specs.Cmp.Lexicographic.{slice_cmp, nat_list_cmp_total, pointwise}
 use Rattle.std.specs.declared.cmp.Ordering.{Ordering}
 use Rattle.std.specs.declared.cmp.Ordering.TheVariants.{Less, Equal, Greater}
-use Rattle.std.specs.Ordering.{nat_cmp, ordering_then, ordering_reverse, is_lt, is_eq}
-use Rattle.std.proofs.lemmas.Bool.{both_ways, false≢true, or_left, lt-ltb, and_from, cond-true}
+use Rattle.std.specs.Ordering.{nat_cmp, ordering_reverse, is_lt, is_eq}
+use Rattle.std.proofs.lemmas.Bool.{both_ways, lt-ltb, cond-true}
 use Rattle.std.proofs.lemmas.Bool.Decides.{nat_tests}
 use Rattle.std.proofs.lemmas.Cmp.{same_from_slice_cmp}
 use Rattle.std.proofs.lemmas.List.{get_or-map, length-map}
@@ -38,7 +38,7 @@ by_order x y Equal e h g = (bytes_eq-Decides x y).0 (sym (equal_bytes x y Equal 
 both_least : (x y : List ℕ) → before x y ≡ false → before y x ≡ false → x ≡ y
 both_least x y h g =
     by_order x y (slice_cmp nat_cmp x y) refl h
-      (ap (λ o. is_lt (ordering_reverse o)) (nat_list_cmp_total.antisymm x y) ∙ ap is_lt (turned_twice (slice_cmp nat_cmp y x)) ∙ g)
+    (ap (λ o. is_lt (ordering_reverse o)) (nat_list_cmp_total.antisymm x y) ∙ ap is_lt (turned_twice (slice_cmp nat_cmp y x)) ∙ g)
   where
     turned_twice : (o : Ordering) → ordering_reverse (ordering_reverse o) ≡ o
     turned_twice Less = refl
@@ -49,7 +49,7 @@ both_least x y h g =
 first_least : (x : List ℕ) (xs : List (List ℕ)) (y : List ℕ) → IsSortedBy before (x ∷ xs) → 0 < count_by (bytes_eq y) (x ∷ xs) → before y x ≡ false
 first_least x xs y up some =
     let found : Any (λ z. bytes_eq y z ≡ true) (x ∷ xs) =
-      Any-from_list_any (bytes_eq y) (x ∷ xs) (sym (count_some (bytes_eq y) (x ∷ xs)) ∙ lt-ltb 0 (count_by (bytes_eq y) (x ∷ xs)) some) in
+    Any-from_list_any (bytes_eq y) (x ∷ xs) (sym (count_some (bytes_eq y) (x ∷ xs)) ∙ lt-ltb 0 (count_by (bytes_eq y) (x ∷ xs)) some) in
     let same : y ≡ get_or (x ∷ xs) found.0 found.1 = (bytes_eq-Decides y found.1).0 found.4 ∙ sym found.3 in
     ap (λ z. before z x) same ∙ sorted_far before before_order (x ∷ xs) up 0 found.0 found.1 (omega arith) found.2
 
@@ -79,8 +79,8 @@ sorted_same [] (y ∷ ys) up up' same = absurd (omega (arith, same y, counted_fi
 sorted_same (x ∷ xs) [] up up' same = absurd (omega (arith, same x, counted_first x xs))
 sorted_same (x ∷ xs) (y ∷ ys) up up' same =
     let e : x ≡ y = both_least x y
-      (first_least y ys x up' (omega (arith, same x, counted_first x xs)))
-      (first_least x xs y up (omega (arith, same y, counted_first y ys))) in
+    (first_least y ys x up' (omega (arith, same x, counted_first x xs)))
+    (first_least x xs y up (omega (arith, same y, counted_first y ys))) in
     let rest = sorted_same xs ys (rest_sorted x xs up) (rest_sorted y ys up') (same_rest x y xs ys e same) in
     ap (λ z. z ∷ xs) e ∙ ap (λ zs. y ∷ zs) rest
 
@@ -89,9 +89,10 @@ counts xs ys p = λ z. sym (sum_by-IsPermutation (λ w. cond (bytes_eq z w) 1 0)
 
 -- lines are the same in some order exactly if they are the same once they are sorted
 pub same_sorted : (xs ys us vs : List (List ℕ)) → IsPermutation xs us → IsPermutation ys vs → IsSortedBy before us → IsSortedBy before vs → (us ≡ vs) ↔ IsPermutation xs ys
-same_sorted xs ys us vs p q up up' =
-    ( (λ e. IsPermutation-trans xs us ys p (subst (λ (zs : List (List ℕ)). IsPermutation zs ys) (sym e) (IsPermutation-sym ys vs q)))
-    , (λ r. sorted_same us vs up up' (counts us vs (IsPermutation-trans us ys vs (IsPermutation-trans us xs ys (IsPermutation-sym xs us p) r) q))) )
+same_sorted xs ys us vs p q up up' = (
+  (λ e. IsPermutation-trans xs us ys p (subst (λ (zs : List (List ℕ)). IsPermutation zs ys) (sym e) (IsPermutation-sym ys vs q))),
+  (λ r. sorted_same us vs up up' (counts us vs (IsPermutation-trans us ys vs (IsPermutation-trans us xs ys (IsPermutation-sym xs us p) r) q))),
+)
 
 -- lines that are pointed to are sorted as their bytes are
 pub texts_sorted : (lines : List (Bor (List ℕ))) → IsSortedBy (λ x y. before x.now y.now) lines → IsSortedBy before (texts lines)

@@ -1,12 +1,12 @@
 -- What properties say of a run: of the lines that it printed, and of its end.
-use Rattle.std.specs.Prelude.{◌≡◌, ℕ, Bool, true, false, not, ◌||◌, nat_le, IsTrue, IsPermutation, List, count_by}
+use Rattle.std.specs.Prelude.{Bool, true, false, not, ◌||◌, nat_le, List, count_by}
 use Rattle.std.specs.List.{list_any, before_first}
 use Rattle.cml_properties.specs.declared.kind.PropertyKind.{PropertyKind}
 use Rattle.cml_properties.specs.declared.kind.PropertyKind.TheVariants as kind
 use Rattle.cml_properties.specs.declared.property.Property.{Property}
 use Rattle.cml_properties.specs.declared.property.Property.TheVariants.{Never, Always, Once, Before, SameLines, SameOrder, Empty}
 use Rattle.cml_properties.specs.declared.property.Finish.{Finish}
-use Rattle.cml_properties.specs.declared.property.Finish.TheVariants.{GoesOn, Emptied, HasItems}
+use Rattle.cml_properties.specs.declared.property.Finish.TheVariants.{GoesOn, HasItems}
 use Rattle.cml_properties.specs.Lines.{PlainLine}
 use Rattle.cml_properties.specs.Patterns.{matches}
 

@@ -97,7 +97,7 @@ LinesSay at [] found = found ≡ Ok []
 LinesSay at (line ∷ behind) found =
     ((fault : PropertyFault) × LineSays at line (Err fault) × (found ≡ Err fault))
     ⊎ ((first : Option Property) × (others : Result (List Property) PropertyFault) ×
-       LineSays at line (Ok first) × LinesSay (at + (length line + 1)) behind others × (found ≡ before_others first others))
+    LineSays at line (Ok first) × LinesSay (at + (length line + 1)) behind others × (found ≡ before_others first others))
 
 -- what a text says; if it is too long, this is its fault
 abbrev pub TextSays : List ℕ → Result (List Property) PropertyFault → Type 0

@@ -1,5 +1,5 @@
 -- Where a property breaks, and what is known of a run while its lines come.
-use Rattle.std.specs.Prelude.{◌≡◌, ℕ, ◌+◌, ◌≤◌, ◌==◌, ◌&&◌, not, Bool, false, if◌then◌else◌, IsTrue, IsFalse, Option, Some, None, List, length, take}
+use Rattle.std.specs.Prelude.{◌≡◌, ℕ, ◌+◌, ◌≤◌, ◌==◌, ◌&&◌, not, Bool, false, if◌then◌else◌, IsTrue, IsFalse, List, length, take}
 use Rattle.std.specs.List.{list_any}
 use Rattle.cml_properties.specs.declared.property.Property.{Property}
 use Rattle.cml_properties.specs.declared.property.Property.TheVariants.{Never, Always, Once, Before, Empty}

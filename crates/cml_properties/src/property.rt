@@ -1,10 +1,10 @@
 //! Properties, and how they are kept.
 
-use crate::kind::PropertyKind;
-use crate::pattern::Pattern;
-
 ghost use Rattle.std.specs.Prelude.{◌≡◌};
 ghost use Rattle.cml_properties.specs.Properties as spec;
+
+use crate::kind::PropertyKind;
+use crate::pattern::Pattern;
 
 /// What must hold of a run, or of all runs.
 #[derive(Drop)]

@@ -103,10 +103,7 @@ fn past_separators(line: &[u8]) -> &[u8]
 fn separators_len(bytes: &[u8]) -> usize
     ensures { result ≡ prefix_len is_separator bytes.now }
 {
-    bytes
-        .iter()
-        .take_while(|byte| is_separator(**byte))
-        .count()
+    bytes.iter().take_while(|byte| is_separator(**byte)).count()
 }
 
 // Whether the byte is a space, a tab, a carriage return or a line feed.

@@ -10,7 +10,7 @@ pub returns-clause-lines : goal.returns-clause-lines
 returns-clause-lines c =
     let same : c.in_ok-found.found.items ≡ c.args.lines.now = c.in_ok-found.ensures.items_if_clones_equal (λ x y h. h) in
     subst (λ (xs : List (Bor (List ℕ))). IsPermutation (texts xs) (texts c.sort_unstable.new.self.items)) same
-      (IsPermutation-map (λ l. l.now) _ _ c.sort_unstable.ensures.permutation)
+    (IsPermutation-map (λ l. l.now) _ _ c.sort_unstable.ensures.permutation)
 
 pub returns-clause-order : goal.returns-clause-order
 returns-clause-order c = texts_sorted c.sort_unstable.new.self.items c.sort_unstable.ensures.sorted

@@ -11,8 +11,8 @@ pub fits-requires : goal.fits-requires
 fits-requires t c =
     let depth : ℕ = nesting_of (plain_forms c.in-List.patterns.now) in
     let below : nesting c.index-patterns-index.result ≤ depth =
-      subst (λ (form : PlainSexpr). nesting form ≤ depth) (sym c.index-patterns-index.is)
-        (nesting_at c.in-List.patterns.now c.loop-index.index c.index-patterns-index.result c.loop-index-test.true) in
+    subst (λ (form : PlainSexpr). nesting form ≤ depth) (sym c.index-patterns-index.is)
+    (nesting_at c.in-List.patterns.now c.loop-index.index c.index-patterns-index.result c.loop-index-test.true) in
     let whole : nesting c.args.pattern.now ≡ depth + 1 = ap nesting c.in-List.ensures in
     let start = c.decreases in
     (omega arith, tt)

@@ -9,10 +9,11 @@ loop-line-init c =
     (says_first c.args.text.now _ _ c.new-found.ensures.items all, fits_first c.args.text.now _ all, omega arith)
 
 pub loop-line-preserved : goal.loop-line-preserved
-loop-line-preserved c =
-    ( says_next c.args.text.now _ _ _ _ _ _ c.in_ok-said.said c.in-Some.ensures.line c.in_ok-push_said.ensures c.loop-line.invariant.0 c.in_ok-said.ensures
-    , fits_next _ _ _ _ _ c.in-Some.ensures.line c.loop-line.invariant.1
-    , c.loop-line.invariant.2 )
+loop-line-preserved c = (
+  says_next c.args.text.now _ _ _ _ _ _ c.in_ok-said.said c.in-Some.ensures.line c.in_ok-push_said.ensures c.loop-line.invariant.0 c.in_ok-said.ensures,
+  fits_next _ _ _ _ _ c.in-Some.ensures.line c.loop-line.invariant.1,
+  c.loop-line.invariant.2,
+)
 
 pub returns-in_err-said : goal.returns-in_err-said
 returns-in_err-said c =

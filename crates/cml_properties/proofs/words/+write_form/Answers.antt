@@ -8,8 +8,8 @@ pub write_form-requires : goal.write_form-requires
 write_form-requires g t c = λ κs within.
     let depth : ℕ = nesting_of (plain_forms c.in-List.forms.now) in
     let below : nesting c.index-forms-index.result ≤ depth =
-      subst (λ (form : PlainSexpr). nesting form ≤ depth) (sym c.index-forms-index.is)
-        (nesting_at c.in-List.forms.now c.loop-index.index c.index-forms-index.result c.loop-index-test.true) in
+    subst (λ (form : PlainSexpr). nesting form ≤ depth) (sym c.index-forms-index.is)
+    (nesting_at c.in-List.forms.now c.loop-index.index c.index-forms-index.result c.loop-index-test.true) in
     let whole : nesting c.args.form.now ≡ depth + 1 = ap nesting c.in-List.ensures in
     let start = c.decreases in
     (omega arith, within)
