@@ -1,0 +1,9 @@
+pub mod Kinds
+pub mod Lines
+pub mod Codes
+pub mod Patterns
+pub mod Properties
+pub mod Watches
+pub mod Agreements
+pub mod Reading
+pub mod Laws
