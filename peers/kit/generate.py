@@ -107,9 +107,12 @@ class Generator:
         effects = any(self.sayable(EFFECTS.get(kind, ())) for kind in scope.values())
         known = any(kind == "value" for kind in scope.values())
         room = self.threads < THREADS
-        ways: dict[str, float] = {"sync": 6, "effect": 3 * effects, "print": 0.4, "yield": 0.2, "exit": 0.1, "spawn": 0.3 * room, "if": 0.5 * known,
-                                  "call": 0.2, "set": 0.2 * known}
-        return getattr(self, "of_" + self.drawn(ways))(scope)
+        likely: dict[str, float] = {"sync": 6, "effect": 3 * effects, "print": 0.4, "yield": 0.2, "exit": 0.1, "spawn": 0.3 * room, "if": 0.5 * known,
+                                    "call": 0.2, "set": 0.2 * known}
+        ways: dict[str, Callable[[Scope], list[Form]]] = {
+            "sync": self.of_sync, "effect": self.of_effect, "print": self.of_print, "yield": self.of_yield, "exit": self.of_exit,
+            "spawn": self.of_spawn, "if": self.of_if, "call": self.of_call, "set": self.of_set}
+        return ways[self.drawn(likely)](scope)
 
     def of_sync(self, scope: Scope) -> list[Form]:
         event = self.event(scope, 0)

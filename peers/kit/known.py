@@ -19,6 +19,7 @@ MORE = 10  # times as many states as a script may have, a rewritten one may
 class Way:
     """A way: of which peer, its name, what is so, the script of the suite that shows it, and by what an outcome is known:
     `fault F` (a thread ends at F), `has W` (the script has the keyword W), `own nack` (a branch offers its own nack),
+    `a wait in a guard` (the function of a guard or a withnack has a `sync`),
     `as R` (the rules allow the outcome to the script as REWRITINGS[R] makes it), or `at a fault as R` (the same, if a thread ends at a fault)."""
     peer: str
     name: str
@@ -66,6 +67,8 @@ class Explained:
                 return word in words_of(self.script)
             case ["own", "nack"]:
                 return self.offers_own_nack()
+            case ["a", "wait", "in", "a", "guard"]:
+                return waits_in_a_guard(self.script)
         rewritings = [rewriting_of(each, outcome) for each in by]
         if None in rewritings:
             return False
@@ -103,3 +106,10 @@ def offers_own_nack(script: Script, name: str) -> bool:
     """Whether the event that this function of a `withnack` returns has the nack in it, as its text says."""
     of = named(script)[name]
     return any(part == of.parameters[-1] for form in of.body if isinstance(form, tuple) and form[:1] == ("return",) for part in parts_of(form))
+
+
+def waits_in_a_guard(script: Script) -> bool:
+    """Whether the function of a guard or a withnack has a `sync`, as its text says."""
+    functions = named(script)
+    called = [functions[name] for word in ("guard", "withnack") for name in called_by(script, word)]
+    return any(isinstance(part, tuple) and part[:1] == ("sync",) for of in called for form in of.body for part in parts_of(form))

@@ -14,7 +14,9 @@ def early_offers(script: Script) -> Script:
     added: list[Function] = []
     changed = tuple(Function(of.name, of.parameters, tuple(rewritten(form, lambda part: with_late_calls(part, of, added)) for form in of.body))
                     for of in script)
-    return left_out(changed + tuple(added), {name for name in named(script) for word in CALLED if name in called_by(script, word)})
+    names = {name for word in CALLED for name in called_by(script, word)}
+    late = tuple(Function(f"late_{of.name}", of.parameters, late_body(of.body)) for of in script if of.name in names)
+    return left_out(changed + tuple(added), names) + late
 
 
 def left_out(script: Script, names: set[str]) -> Script:
@@ -73,9 +75,27 @@ def captured(form: Form, of: Function) -> tuple[str, ...]:
 
 
 def called_late(branch: Form) -> Form:
-    """The call of a branch that has lost."""
+    """The call of a branch that has lost; its nack has happened."""
     word, name, *given = branch
-    return ("call", name, *given, ("always", "unit")) if word == "withnack" else ("call", name, *given)
+    return ("call", f"late_{name}", *given, ("always", "unit")) if word == "withnack" else ("call", f"late_{name}", *given)
+
+
+def late_body(body: tuple[Form, ...]) -> tuple[Form, ...]:
+    """What a function does that is called late: where it would return an event, those that this one calls may be called."""
+    return tuple(late for statement in body for late in late_statements(statement))
+
+
+def late_statements(statement: Form) -> Iterator[Form]:
+    match statement:
+        case ("return", event):
+            for branch in filter(is_called, parts_of(event)):
+                yield ("let", "is_called", ("sync", ("choose", ("always", "true"), ("always", "false"))))
+                yield ("if", "is_called", ("do", called_late(branch)), ("do",))
+            yield ("return", "unit")
+        case ("if", condition, ("do", *then), ("do", *otherwise)):
+            yield ("if", condition, ("do", *late_body(tuple(then))), ("do", *late_body(tuple(otherwise))))
+        case _:
+            yield statement
 
 
 def inmost(event: Form, function: tuple[str, ...]) -> Form:

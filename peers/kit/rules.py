@@ -42,10 +42,10 @@ class Rules:
             except subprocess.TimeoutExpired as late:
                 raise Unknown(f"it takes more than {self.seconds:.0f} seconds") from late
         told = [json.loads(line) for line in done.stdout.splitlines() if line.startswith("{")]
-        if done.returncode not in (0, 6) or not told:
-            raise Unknown(next(iter((done.stderr + done.stdout).strip().splitlines()[-1:]), f"status {done.returncode}"))
         if not all(fields.get("whole", True) for fields in told):
             raise Unknown("it has more states than are asked for")
+        if done.returncode not in (0, 6) or not told:
+            raise Unknown(next(iter((done.stderr + done.stdout).strip().splitlines()[-1:]), f"status {done.returncode}"))
         return frozenset(without_faults(fields) for fields in told if "threads" in fields)
 
 
