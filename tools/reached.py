@@ -4,8 +4,9 @@
     tools/reached.py    writes what was found to be reached here (out/reached) into tools/reached.txt too
 
 The compiler of `rt try` reads all of each library that a program stands on, the bodies of all its functions too: three lines of the toolchain's for one of
-ours, of which our programs reach one in six. tools/reached.txt has the functions that they reach, by file and name, for one toolchain. The body of any
-other function is made `loop {}` before the compiler reads it, in a copy; what else stands there, contracts and signatures, stays as it is. A function may
+ours, of which our programs reach one in six. tools/reached.txt has the functions that they reach, by library and name, for one toolchain (a method may
+stand in any file of its library, so one of a name that is reached stays in each). The body of any other function is made `loop {}` before the compiler
+reads it, in a copy; what else stands there, contracts and signatures, stays as it is. A function may
 be reached that the list lacks, as after a change. Such a function is seen in the module that is made, since it does nothing but go round: then the module
 is made once more, from the whole sources, and what the list lacked is written into out/reached, which counts from then on (`unproved.py`). So no program
 is made with such a function in it.
@@ -30,27 +31,27 @@ ROUND = re.compile(r"^(?:([\w.]+):[^\n]*\n)  br label %(\1)\n", re.M)
 
 
 def read(file):
-    """The functions that a list has, by file, and the toolchain that it is of."""
+    """The functions that a list has, by library, and the toolchain that it is of."""
     try:
         first, *lines = file.read_text(encoding="utf-8").splitlines()
     except (OSError, ValueError):
         return "", {}
-    return first, {path: set(names.split()) for path, names in (it.split(": ") for it in lines)}
+    return first, {library: set(names.split()) for library, names in (it.split(": ") for it in lines)}
 
 
 def known():
-    """The functions that are known to be reached, by file; nothing where they are of another toolchain."""
+    """The functions that are known to be reached, by library; nothing where they are of another toolchain."""
     found = {}
     for file in (LIST, FOUND):
         of, names = read(file)
         if of == toolchain.line():
-            for path in names:
-                found.setdefault(path, set()).update(names[path])
+            for library in names:
+                found.setdefault(library, set()).update(names[library])
     return found
 
 
 def write(file, found):
-    lines = [f"{path}: {' '.join(sorted(found[path]))}\n" for path in sorted(found)]
+    lines = [f"{library}: {' '.join(sorted(found[library]))}\n" for library in sorted(found)]
     file.parent.mkdir(exist_ok=True)
     file.write_text(f"{toolchain.line()}\n{''.join(lines)}", encoding="utf-8")
 
@@ -103,7 +104,7 @@ def copy_shortened(kit, sources, place, found):
     for (name, folder, file), its in zip(files, tokens):
         path = f"{name}/src/{file.relative_to(folder)}"
         (place / path).parent.mkdir(parents=True, exist_ok=True)
-        (place / path).write_bytes(shortened(file.read_bytes(), its, found.get(path, ())))
+        (place / path).write_bytes(shortened(file.read_bytes(), its, found.get(name, ())))
 
 
 def shorten(words, place):
@@ -124,20 +125,12 @@ def goes_round(text):
 
 
 def of_module(text):
-    """The functions of the toolchain's libraries in the module, by file."""
+    """The functions of the toolchain's libraries in the module, by library."""
     found, rattle = {}, toolchain.folder() / "rattle"
     for whole, plain in set(SYMBOL.findall(text)):
-        *path, name = re.sub(r"::<.*", "", whole or plain).split("::")
-        place = rattle / path[0] / "src" if path else rattle / "none"
-        if not place.is_dir():
-            continue
-        file = place / "lib.rt"
-        for part in path[1:]:
-            inner = next((it for it in (place / f"{part}.rt", place / part / "mod.rt") if it.is_file()), None)
-            if not inner:
-                break
-            file, place = inner, place / part
-        found.setdefault(str(file.relative_to(rattle)), set()).add(name)
+        library, *path = re.sub(r"::<.*", "", whole or plain).split("::")
+        if path and (rattle / library / "src").is_dir():
+            found.setdefault(library, set()).add(path[-1])
     return found
 
 
@@ -152,9 +145,9 @@ def learn(text):
 
 
 def lacking():
-    """What was found to be reached here and the list lacks, each as file and name: because of it the sources are read twice."""
-    known_here, found = read(LIST)[1], read(FOUND)[1]
-    return [f"{path} {name}" for path in sorted(found) for name in sorted(found[path] - known_here.get(path, set()))]
+    """What was found to be reached here and the list lacks, each as library and name: because of it the sources are read twice."""
+    listed, found = read(LIST)[1], read(FOUND)[1]
+    return [f"{library} {name}" for library in sorted(found) for name in sorted(found[library] - listed.get(library, set()))]
 
 
 def main():
