@@ -1,6 +1,6 @@
 -- What a schedule gives.
-use Rattle.std.proofs.Common.{◌≡◌, ℕ, suc, Bool, List, [], ◌∷◌, ap, refl, subst, sym, ◌∙◌}
-use Rattle.std.specs.Prelude.{Option, Some, None, Result, Ok, Err, IfOk, is_some}
+use Rattle.std.proofs.Common.{◌≡◌, ℕ, suc, Bool, List, [], ◌∷◌, ap, refl, subst, ◌∙◌}
+use Rattle.std.specs.Prelude.{Option, Some, None, Result, IfOk, is_some}
 use Rattle.std.proofs.lemmas.Result.{IfOk-weaker}
 use Rattle.cml_check.specs.Syntax.{PlainItem}
 use Rattle.cml_ending.proofs.ThreadLemmas.{IsMade}

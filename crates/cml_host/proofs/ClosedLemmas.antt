@@ -11,10 +11,10 @@ use Rattle.cml_arguments.specs.declared.ReplayOptions.{ReplayOptions}
 use Rattle.cml_host.specs.Behind.{RepliesAfter}
 use Rattle.cml_host.specs.Closed.{PlainAsked, IsClosed, IsClosing, IsHubAt, MaySay, closing_status, plain_asked, schedule_file}
 use Rattle.cml_host.specs.Replaying.{IsHubOf, IsReplayReply, ReplayTold, ScheduleOutcome, ScriptReplayed, replay_asked}
-use Rattle.cml_host.specs.Replies.{File, IsCarriedOut, Moment, Passage, Replies, behind, broken, file, plain_file, plain_of, plain_refusal, plain_reply, since, upto}
+use Rattle.cml_host.specs.Replies.{File, IsCarriedOut, Moment, Passage, behind, broken, file, plain_file, plain_of, plain_refusal, plain_reply, since, upto}
 use Rattle.cml_host.specs.Servers.{first_unknown, server_numbers, server_names}
 use Rattle.cml_host.specs.Scripts.{PlainScript}
-use Rattle.cml_host.specs.Stores.{Content, Shelf, IsUnchanged}
+use Rattle.cml_host.specs.Stores.{Content, Shelf}
 use Rattle.cml_host.specs.Told.{IsRunOf, AllReported, AreCut, AreTold, whole_output}
 use Rattle.cml_host.specs.declared.close.Asked.{Asked}
 use Rattle.cml_host.specs.declared.close.Closing.{Closing}

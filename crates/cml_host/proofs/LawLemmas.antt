@@ -1,15 +1,15 @@
 -- No outcome is left out.
-use Rattle.std.proofs.Common.{◌≡◌, ◌∙◌, ℕ, ◌≤◌, true, List, length, ap, subst, sym, arith}
+use Rattle.std.proofs.Common.{◌≡◌, ◌∙◌, ℕ, ◌≤◌, true, List, length, ap, sym, arith}
 use Rattle.std.specs.Prelude.{Some, Contains}
 use Rattle.std.proofs.lemmas.List.Elements.{All-contains}
 use Rattle.cml_check.specs.Syntax.{PlainItem}
-use Rattle.cml_explore.specs.Outcomes.{GivesOutcome, PlainOutcome, ends_from, has_fallen}
+use Rattle.cml_explore.specs.Outcomes.{ends_from, has_fallen}
 use Rattle.cml_hub.specs.Runs.{Run}
 use Rattle.cml_schedule.specs.declared.item.Item.{Item}
 use Rattle.cml_step.specs.Calls.{text_of}
 use Rattle.cml_verify.specs.Verdicts.{EndsIn, RunEnd}
 use Rattle.cml_host.specs.Laws.{IsTextOf, NoOutcomeIsLeftOut}
-use Rattle.cml_host.specs.Outcomes.{AreOutcomes, GivesText, PlainOutcomeTold, outcome_text}
+use Rattle.cml_host.specs.Outcomes.{GivesText, PlainOutcomeTold}
 
 some_same : {X : Type 0} (x y : X) → Some x ≡ Some y → x ≡ y
 some_same x y h = cc

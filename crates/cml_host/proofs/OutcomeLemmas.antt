@@ -2,7 +2,6 @@
 use Rattle.std.proofs.Common.{◌≡◌, ◌∙◌, ℕ, zero, suc, ◌+◌, ◌<◌, true, List, [], ◌∷◌, ◌++◌, length, map, take, get_or, codes, refl, sym, ap, arith, append_assoc, append-nil, add-zero}
 use Rattle.std.specs.Prelude.{Option, Some, None, Vec}
 use Rattle.std.specs.Fmt.{decimal}
-use Rattle.std.specs.List.{flat_map}
 use Rattle.std.specs.declared.alloc.Global.{Global}
 use Rattle.std.proofs.lemmas.List.{flat_map_more, length-map, length-take-le, map_push, take_more}
 use Rattle.cml_arguments.specs.Words.{saved_name}
@@ -10,8 +9,7 @@ use Rattle.cml_check.specs.Sizes.{size_of}
 use Rattle.cml_check.specs.Syntax.{Name, PlainItem}
 use Rattle.cml_schedule.specs.Written.{schedule_text}
 use Rattle.cml_schedule.specs.declared.item.Item.{Item}
-use Rattle.cml_text.specs.Lines.{line}
-use Rattle.cml_host.specs.Json.{behind_comma, commas, member, object}
+use Rattle.cml_host.specs.Json.{behind_comma, commas}
 use Rattle.cml_host.specs.Outcomes.{PlainOutcomeTold, files_of, outcome_file, plain_outcome_told, search_line}
 use Rattle.cml_host.specs.Replies.{File, file, plain_file}
 use Rattle.cml_host.specs.declared.outcomes.OutcomeTold.{OutcomeTold}
@@ -19,32 +17,6 @@ use Rattle.cml_host.specs.declared.reply.File as code
 
 some_same : {X : Type 0} (x y : X) → Some x ≡ Some y → x ≡ y
 some_same x y h = cc
-
--- ---- lists, one more
-
--- what is made of one more
-pub mapped_next : {X Y Z : Type 0} (f : X → Z) (g : Y → Z) (old new : List X) (x : X) (ys : List Y) (i : ℕ) (d : Y) → i < length ys → new ≡ old ++ x ∷ [] → f x ≡ g (get_or ys i d)
-    → map f old ≡ map g (take i ys) → map f new ≡ map g (take (i + 1) ys)
-mapped_next f g old new x ys i d within more is was =
-    ap (map f) more ∙ (map_push f old x ∙ (ap (λ zs. zs ++ f x ∷ []) was ∙ (ap (λ z. map g (take i ys) ++ z ∷ []) is
-    ∙ (sym (map_push g (take i ys) (get_or ys i d)) ∙ sym (ap (map g) (take_more ys i d within))))))
-
--- what is made of one more of those that are left
-pub left_next : {X Y Z : Type 0} (f : X → Z) (g : Y → Z) (old new : List X) (x : X) (y : Y) (left behind : List Y) (all : List Z) → new ≡ old ++ x ∷ [] → f x ≡ g y → left ≡ y ∷ behind
-    → map f old ++ map g left ≡ all → map f new ++ map g behind ≡ all
-left_next f g old new x y left behind all more is first was =
-    ap (λ xs. map f xs ++ map g behind) more ∙ (ap (λ zs. zs ++ map g behind) (map_push f old x) ∙ (append_assoc (map f old) (f x ∷ []) (map g behind)
-    ∙ (ap (λ z. map f old ++ z ∷ map g behind) is ∙ (sym (ap (λ ys. map f old ++ map g ys) first) ∙ was))))
-
-pub left_none : {X Y Z : Type 0} (f : X → Z) (g : Y → Z) (old : List X) (left : List Y) (all : List Z) → left ≡ [] → map f old ++ map g left ≡ all → map f old ≡ all
-left_none f g old left all none was = sym (append-nil (map f old)) ∙ (sym (ap (λ ys. map f old ++ map g ys) none) ∙ was)
-
--- what is appended for one more
-pub flat_next : {X Y : Type 0} (f : Y → List ℕ) (g : X → Y) (start old new : List ℕ) (xs : List X) (i : ℕ) (d : X) → i < length xs → old ≡ start ++ flat_map f (map g (take i xs))
-    → new ≡ old ++ f (g (get_or xs i d)) → new ≡ start ++ flat_map f (map g (take (i + 1) xs))
-flat_next f g start old new xs i d within was more =
-    let split : map g (take (i + 1) xs) ≡ map g (take i xs) ++ g (get_or xs i d) ∷ [] = ap (map g) (take_more xs i d within) ∙ map_push g (take i xs) (get_or xs i d) in
-    more ∙ (ap (λ t. t ++ f (g (get_or xs i d))) was ∙ (flat_map_more f start (map g (take i xs)) (g (get_or xs i d)) ∙ sym (ap (λ ys. start ++ flat_map f ys) split)))
 
 -- ---- texts of JSON
 
@@ -64,15 +36,6 @@ array_next start old new texts i d one within is was more =
     ap (map (λ (t : Vec ℕ Global). t.items)) (take_more texts i d within) ∙ (map_push (λ (t : Vec ℕ Global). t.items) (take i texts) (get_or texts i d) ∙ ap (λ b. before ++ b ∷ []) (sym is)) in
     more ∙ (ap (λ t. t ++ behind_comma i one) was ∙ (append_assoc start (commas before) (behind_comma i one)
     ∙ (ap (λ t. start ++ t) (sym (comma_pushed before i one long)) ∙ sym (ap (λ ts. start ++ commas ts) split))))
-
--- two members, as they are written
-pub two_members : (lines threads : List ℕ) → ((codes "\"lines\":" ++ lines) ++ codes ",\"threads\":") ++ threads ≡ commas (member (codes "lines") lines ∷ member (codes "threads") threads ∷ [])
-two_members lines threads =
-    append_assoc (codes "\"lines\":" ++ lines) (codes ",\"threads\":") threads ∙ ap (λ t. (codes "\"lines\":" ++ lines) ++ t) (sym (append-nil (codes ",\"threads\":" ++ threads)))
-
--- an outcome, as it is written
-pub told_written : (old text number : List ℕ) → ((old ++ 123 ∷ []) ++ text) ++ (codes ",\"items\":" ++ number ++ codes "}\n") ≡ old ++ line (object (text ∷ member (codes "items") number ∷ []))
-told_written old text number = simp (append_assoc, append-nil) refl
 
 closed : (one two : List ℕ) → one ++ (two ++ 125 ∷ 10 ∷ []) ≡ ((one ++ two) ++ 125 ∷ []) ++ 10 ∷ []
 closed one two = sym (append_assoc (one ++ two) (125 ∷ []) (10 ∷ []) ∙ append_assoc one two (125 ∷ 10 ∷ []))

@@ -1,17 +1,14 @@
 -- What was written of texts, one after another, what was saved of files, and how a reply was carried out by that.
-use Rattle.std.proofs.Common.{◌≡◌, ◌∙◌, ◌+◌, ◌<◌, ◌==◌, ◌++◌, ◌∷◌, [], ℕ, zero, suc, Bool, true, false, List, Option, Result, Ok}
+use Rattle.std.proofs.Common.{◌≡◌, ◌∙◌, ◌+◌, ◌<◌, ◌==◌, ◌++◌, ◌∷◌, [], ℕ, zero, suc, Bool, true, false, List, Result, Ok}
 use Rattle.std.proofs.Common.{Err, OnOk, OnErr, map, take, drop, drop-cons, get_or, length, string_bytes, arith, refl, sym, ap, subst, inl, inr, add-one, true≢false}
 use Rattle.std.proofs.KnownBytes.{Appends-kept, Appends-nil, Appends-trans, Keeps-trans}
 use Rattle.std.proofs.Math.Seq.{take-suc}
 use Rattle.std.proofs.lemmas.List.{take-append-drop}
 use Rattle.cml_stream.specs.Counts.{counted}
 use Rattle.cml_stream.specs.Streams.{stream, Takes}
-use Rattle.cml_host.specs.Refused.{Fault, RefusesAs}
 use Rattle.cml_host.specs.Replies.{AreSaved, IsCutShort, File, GivesUp, HasSavedSome, IsCarriedOut, IsKept, IsSaid, EndsWriting}
-use Rattle.cml_host.specs.Replies.{IsWritten, Moment, Passage, PlainReply, RefusalOf, Replies, TellsUnsaved, plain_file, plain_of, plain_refusal}
+use Rattle.cml_host.specs.Replies.{IsWritten, Moment, Passage, PlainReply, TellsUnsaved, plain_file, plain_of}
 use Rattle.cml_host.specs.Stores.{Content, Shelf, IsReplacedBy, IsSaved, IsUnchanged}
-use Rattle.cml_host.specs.declared.refusal.Refusal.{Refusal}
-use Rattle.cml_host.specs.declared.refusal.Refusal.TheVariants.{Told, Line, Memory}
 use Rattle.cml_host.specs.declared.reply.File as code
 use Rattle.cml_host.specs.declared.reply.Reply.{Reply}
 use Rattle.cml_host.proofs.SayLemmas.{start_taken}

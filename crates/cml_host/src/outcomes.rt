@@ -1,6 +1,6 @@
 //! What every schedule gives, in a form that a program reads.
 
-ghost use Rattle.std.specs.{Prelude.{◌≡◌, ◌++◌, IfOk, List, OnOk, map, option_map, ℕ}, BTreeMap.{IsOrdered}, Cmp.Lexicographic.{slice_cmp}, Ordering.{nat_cmp}, String.{string_bytes}};
+ghost use Rattle.std.specs.{Prelude.{◌≡◌, ◌++◌, ◌∷◌, [], IfOk, List, OnOk, map, option_map, ℕ}, BTreeMap.{IsOrdered}, Cmp.Lexicographic.{slice_cmp}, Ordering.{nat_cmp}, String.{string_bytes}};
 ghost use Rattle.cml_explore.specs.Outcomes.{plain_outcome};
 ghost use Rattle.cml_host.specs.Json as json;
 ghost use Rattle.cml_host.specs.Outcomes.{AreFound, AreOutcomes, GivesText, Notes, plain_outcome_told, entry_told};
@@ -44,6 +44,15 @@ fn end_name(end: ThreadEnd) -> &'static str
     }
 }
 
+// Appends the text of a string.
+fn push_string(alloc: Global, texts: &mut Vec<Vec<u8>>, bytes: &[u8]) -> Result<(), AllocError>
+    ensures { OnOk result (map (λ one. one.items) texts.new.items ≡ map (λ one. one.items) texts.old.items ++ json.json_string bytes.now ∷ []) }
+{
+    let text = json_string(alloc, bytes)?;
+    texts.push(text)?;
+    Ok(())
+}
+
 // The texts of the lines of an output.
 fn line_texts(alloc: Global, output: &[u8]) -> Result<Vec<Vec<u8>>, AllocError>
     ensures { IfOk result (λ texts. map (λ one. one.items) texts.items ≡ map json.json_string (lines output.now)) }
@@ -51,7 +60,7 @@ fn line_texts(alloc: Global, output: &[u8]) -> Result<Vec<Vec<u8>>, AllocError>
     let mut texts = Vec::new(alloc);
     let mut all = Lines::new(output);
     while let Some((_, line)) = all.next() {
-        texts.push(json_string(alloc, line)?)?;
+        push_string(alloc, &mut texts, line)?;
     }
     Ok(texts)
 }
@@ -62,8 +71,7 @@ fn end_texts(alloc: Global, ends: &[ThreadEnd]) -> Result<Vec<Vec<u8>>, AllocErr
 {
     let mut texts = Vec::new(alloc);
     for end in ends {
-        let text = json_string(alloc, end_name(*end).as_bytes())?;
-        texts.push(text)?;
+        push_string(alloc, &mut texts, end_name(*end).as_bytes())?;
     }
     Ok(texts)
 }

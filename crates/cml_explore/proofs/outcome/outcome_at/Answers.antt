@@ -9,7 +9,7 @@ returns c =
     let course = c.args.hub.now.course in
     record {
       run = run_of course;
-      leads = c.schedule-_items.ensures.leads;
+      leads = c.schedule-items.ensures.leads;
       output_is = search rules;
       threads_are = c.in_ok-threads.ensures ∙ ends_fallen course.program course.items (fall_in c.in_ok-falls.falls) c.in_ok-falls.ensures course.world.threads;
     }

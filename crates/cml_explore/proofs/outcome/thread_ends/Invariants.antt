@@ -8,5 +8,4 @@ use Rattle.cml_explore.proofs.outcome.thread_ends.Given as goal
 abbrev pub invariant-loop-t : goal.invariant-loop-t
 invariant-loop-t l =
     let threads = l.hub.course.world.threads in
-    let fell = λ t. is_some (fall_in l.falls t) in
-    l.ends.items ++ ends_from fell l.t (drop l.t threads) ≡ ends_from fell 0 threads
+    l.ends.items ++ ends_from (λ t. is_some (fall_in l.falls t)) l.t (drop l.t threads) ≡ ends_from (λ t. is_some (fall_in l.falls t)) 0 threads

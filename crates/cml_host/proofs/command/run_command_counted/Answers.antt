@@ -1,4 +1,4 @@
-use Rattle.std.proofs.Common.{rules, ◌≡◌, ℕ, List, ap, map, inl, refl, subst}
+use Rattle.std.proofs.Common.{rules, ◌≡◌, ℕ, List, ap, map, inl, subst}
 use Rattle.std.specs.String.{string_bytes}
 use Rattle.cml_arguments.specs.declared.Answer.TheVariants as answer
 use Rattle.cml_arguments.specs.Words.{IsAnswer}

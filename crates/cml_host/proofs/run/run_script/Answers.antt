@@ -1,11 +1,12 @@
-use Rattle.std.proofs.Common.{◌≡◌, ◌∙◌, Bor, List, [], ℕ, None, ap, inr, is_some, map, subst}
+use Rattle.std.proofs.Common.{◌≡◌, ◌∙◌, Bor, List, ℕ, None, ap, inr, is_some, map, refl, subst}
 use Rattle.cml_host.specs.Closed.{plain_asked}
-use Rattle.cml_host.specs.Replies.{RefusalOf, Replies, passage, plain_refusal}
+use Rattle.cml_host.specs.Refused.{RefusesAs}
+use Rattle.cml_host.specs.Replies.{passage}
 use Rattle.cml_host.specs.Running.{plain_saving}
 use Rattle.cml_host.specs.Scripts.{plain_script}
 use Rattle.cml_host.specs.Servers.{IsNoFunction, first_unknown, server_numbers}
 use Rattle.cml_host.specs.Stores.{Shelf}
-use Rattle.cml_host.proofs.BehindLemmas.{refusal_of}
+use Rattle.cml_host.proofs.BehindLemmas.{refused_behind}
 use Rattle.cml_host.proofs.PictureLemmas.{saving_asked}
 use Rattle.cml_host.proofs.RanLemmas.{opened_ran}
 use Rattle.cml_host.proofs.run.run_script.Goals as goal
@@ -27,11 +28,6 @@ returns-in-Ok-clause-ran g c =
 
 pub returns-in-Err-clause-ran : goal.returns-in-Err-clause-ran
 returns-in-Err-clause-ran g c =
-    let output = passage g.O.Write.contents c.args.out.now c.carry_out.new.out in
-    let errors = passage g.E.Write.contents c.args.err.now c.carry_out.new.err in
-    let store : Shelf = record { before = g.S.Store.holds c.args.store.now; after = g.S.Store.holds c.carry_out.new.store } in
     let s = plain_script c.args.script in
-    inr (
-    subst (λ (ns : List (Bor (List ℕ))). Replies (RefusalOf (IsNoFunction s (map (λ name. name.now) ns))) output errors store c.carry_out.result) c.as_slice.ensures.value
-    (plain_refusal [] c.in-Err.why, refusal_of (IsNoFunction s (map (λ name. name.now) c.as_slice.result.now)) c.in-Err.why c.in-Err.ensures.err, c.carry_out.ensures.carried)
-    )
+    let wrong = subst (λ (ns : List (Bor (List ℕ))). RefusesAs (IsNoFunction s (map (λ name. name.now) ns)) c.in-Err.why) c.as_slice.ensures.value c.in-Err.ensures.err in
+    inr (refused_behind _ c.in-Err.why _ _ _ _ _ _ wrong (λ name. refl) c.carry_out.ensures.carried)
