@@ -201,11 +201,7 @@ fn last_odds(alloc: Global, seed: u64, runs: u64) -> Result<Option<String>, Allo
 }
 
 // What is said where the file of a class would replace the script.
-fn save_odds(
-    alloc: Global,
-    save: Option<&str>,
-    script: &str,
-) -> Result<Option<String>, AllocError>
+fn save_odds(alloc: Global, save: Option<&str>, script: &str) -> Result<Option<String>, AllocError>
     ensures { IfOk result (λ told. ToldOdds (SaveOdds (option_map (λ start. start.now) save.entry) script.now) (option_map (λ text. string_bytes text) told)) }
 {
     match save {

@@ -26,9 +26,7 @@ use crate::servers::find_servers;
 use crate::store::Store;
 use cml_arguments::{ExploreOptions, Until as Word};
 use cml_check::Prog;
-use cml_explore::{
-    Asked, ClassTold, Classes, Explored, RunsTold, Until, tell_runs, write_runs,
-};
+use cml_explore::{Asked, ClassTold, Classes, Explored, RunsTold, Until, tell_runs, write_runs};
 use cml_schedule::{Item, schedule_text};
 use cml_stream::Counting;
 use std::alloc::{AllocError, Global};
@@ -139,11 +137,7 @@ fn explore_with<R: Threads + Sync, E: Write>(
 }
 
 // What the arguments ask for, where the functions of servers have these numbers.
-fn asked_for<'a>(
-    options: &ExploreOptions<'_>,
-    servers: &'a [u32],
-    until: &'a [Until],
-) -> Asked<'a>
+fn asked_for<'a>(options: &ExploreOptions<'_>, servers: &'a [u32], until: &'a [Until]) -> Asked<'a>
     requires depth { IfSome options.now.priority IsDepth }
     requires until { until.now ≡ stops_of (explored_until options.now) }
     ensures { AsksForRuns options.now servers.now result }
@@ -560,7 +554,14 @@ fn told_file(
     let name = kind_start(alloc, start, class.well)?;
     let known = classes.class(class.number);
     let items = known.summary.shortest();
-    class_file(alloc, program, budget, name.as_str(), seen_of(seen, class.well), items)
+    class_file(
+        alloc,
+        program,
+        budget,
+        name.as_str(),
+        seen_of(seen, class.well),
+        items,
+    )
 }
 
 // How many of this kind there are.

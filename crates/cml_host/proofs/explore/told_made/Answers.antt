@@ -10,8 +10,10 @@ use Rattle.cml_host.proofs.explore.told_made.Goals as goal
 pub asked_files-requires : goal.asked_files-requires
 asked_files-requires c =
     let below = told_below _ c.args.script.now.program c.args.asked.now c.args.made.now c.in_ok-told.told c.in_ok-told.ensures in
-    subst (λ (cs : List PlainClass). All (λ (x : ClassTold). x.number < length cs) c.as_slice-classes.result.now) (search rules)
-    (subst (λ (ts : List ClassTold). All (λ (x : ClassTold). x.number < length c.args.made.now.classes) ts) (search rules) below)
+    record {
+      below = subst (λ (cs : List PlainClass). All (λ (x : ClassTold). x.number < length cs) c.as_slice-classes.result.now) (search rules)
+          (subst (λ (ts : List ClassTold). All (λ (x : ClassTold). x.number < length c.args.made.now.classes) ts) (search rules) below);
+    }
 
 pub returns : goal.returns
 returns c =

@@ -18,5 +18,5 @@ returns-in-Ok-clause-ran g c =
       subst (λ (ts : List ℕ). IsCarriedOut (plain_reply ts c.end-made.result) output errors store c.carry_out-status.result) c.out.ensures c.carry_out-status.ensures.carried,
     )
 
-pub returns-in-Err-clause-ran : goal.returns-in-Err-clause-ran
-returns-in-Err-clause-ran g c = (runs_out [], inr refl, c.carry_out.ensures.carried)
+pub returns-clause-ran : goal.returns-clause-ran
+returns-clause-ran g c = (runs_out [], inr refl, c.carry_out.ensures.carried)
