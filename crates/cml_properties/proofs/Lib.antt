@@ -7,3 +7,4 @@ pub mod ReadLemmas
 pub mod SortLemmas
 pub mod OneThing
 pub mod OwnLemmas
+pub mod BreachLemmas

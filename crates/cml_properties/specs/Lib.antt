@@ -5,5 +5,6 @@ pub mod Patterns
 pub mod Properties
 pub mod Watches
 pub mod Agreements
+pub mod Breaches
 pub mod Reading
 pub mod Laws

@@ -2,6 +2,7 @@
 #![tactic(auto)]
 
 mod agreement;
+mod breach;
 mod fault;
 mod kind;
 pub mod law;
@@ -13,6 +14,7 @@ mod watch;
 mod words;
 
 pub use agreement::agree;
+pub use breach::{Breach, Run, breaches};
 pub use fault::{PropertyFault, PropertyFaultKind};
 pub use kind::PropertyKind;
 pub use line::Line;

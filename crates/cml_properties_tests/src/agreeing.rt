@@ -1,7 +1,7 @@
-//! Runs that print alike.
+//! Runs that print alike, and which of several runs break a property.
 
 use crate::making::{MEMORY, property_of};
-use cml_properties::agree;
+use cml_properties::{Finish, Run, agree, breaches};
 use std::process::Abort;
 use std::rt::HostRuntime;
 
@@ -26,6 +26,48 @@ fn runs_agree(rt: HostRuntime) {
     assert!(rt; !has_agreed(&rt, "same-lines", &first, &other), "other");
     assert!(rt; !has_agreed(&rt, "same-lines", &first, &shorter), "shorter");
     assert!(rt; has_agreed(&rt, "same-order", &first, &first), "the same");
-    assert!(rt; !has_agreed(&rt, "same-order", &first, &turned), "turned, in order");
-    assert!(rt; has_agreed(&rt, "empty", &first, &shorter), "another property");
+    assert!(rt;
+        !has_agreed(&rt, "same-order", &first, &turned),
+        "turned, in order"
+    );
+    assert!(rt;
+        has_agreed(&rt, "empty", &first, &shorter),
+        "another property"
+    );
+}
+
+// Of three runs these break the property, at these lines: the second prints what the first does in another order, and the third less.
+fn break_it(rt: &(impl Abort + AllocGlobal), text: &str, expected: &[(usize, usize)]) {
+    let property = property_of(rt, text);
+    let runs = [
+        Run {
+            output: b"1\n2\n",
+            finish: Finish::Emptied,
+        },
+        Run {
+            output: b"2\n1\n",
+            finish: Finish::Emptied,
+        },
+        Run {
+            output: b"1\n",
+            finish: Finish::HasItems,
+        },
+    ];
+    let found = breaches(rt.alloc(), &property, &runs).expect(rt, MEMORY);
+    assert!(rt; found.len() == expected.len(), "{text}");
+    for (breach, pair) in found.iter().zip(expected) {
+        assert!(rt; (breach.run, breach.line) == *pair, "{text}");
+    }
+}
+
+#[test]
+fn runs_break_properties(rt: HostRuntime) {
+    let rt = &rt;
+    break_it(rt, "never 3", &[]);
+    break_it(rt, "never 2", &[(0, 1), (1, 0)]);
+    break_it(rt, "always 2", &[(2, 1)]);
+    break_it(rt, "before 1 2", &[(1, 0)]);
+    break_it(rt, "empty", &[(2, 1)]);
+    break_it(rt, "same-lines", &[(2, 1)]);
+    break_it(rt, "same-order", &[(1, 2), (2, 1)]);
 }

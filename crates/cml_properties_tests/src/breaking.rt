@@ -15,7 +15,10 @@ fn breaks(
 ) {
     let property = property_of(rt, text);
     let lines = lines_of(rt, printed);
-    assert!(rt; broken(&property, lines.as_slice(), finish) == expected, "{text}: {printed}");
+    assert!(rt;
+        broken(&property, lines.as_slice(), finish) == expected,
+        "{text}: {printed}"
+    );
 }
 
 #[test]

@@ -69,7 +69,10 @@ fn patterns_said(rt: &(impl Abort + AllocGlobal), kind: PropertyKind, text: &str
 
 // These patterns are read so.
 fn are_read(rt: &(impl Abort + AllocGlobal), kind: PropertyKind, text: &str, expected: &str) {
-    assert!(rt; patterns_said(rt, kind, text).as_str() == expected, "{text}");
+    assert!(rt;
+        patterns_said(rt, kind, text).as_str() == expected,
+        "{text}"
+    );
 }
 
 #[test]
