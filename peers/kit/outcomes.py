@@ -135,7 +135,12 @@ class Search:
         return frozenset(found)
 
     def following(self, state: State) -> Iterator[State]:
-        """What can happen next: a turn of a thread; one or two threads that go on; else the time moves."""
+        """What can happen next: a turn of a thread; one or two threads that go on; else the time moves. Where a thread makes a choice that
+        nobody else can notice, that alone, since it is the same whenever it is made."""
+        choice = own_choice(state)
+        if choice:
+            yield from (gone_on(state, [Party(offer, offer.base[2])], {}) for offer in choice)
+            return
         still = True
         for number, thread in enumerate(state.threads):
             if thread.state == "runs":
@@ -219,6 +224,16 @@ def answered(ask: Ask, name: tuple, state: State) -> tuple[Value, State]:
 
 def waiting(state: State) -> list[Offer]:
     return [offer for number, thread in enumerate(state.threads) if thread.state == "waits" for offer in offers(number, thread.waits_on)]
+
+
+def own_choice(state: State) -> list[Offer]:
+    """What the first thread offers that waits for nothing but what is always ready, and has no nacks."""
+    for number, thread in enumerate(state.threads):
+        if thread.state == "waits" and not any(branches(thread.waits_on)):
+            own = list(offers(number, thread.waits_on))
+            if own and all(offer.base[1] == "always" for offer in own):
+                return own
+    return []
 
 
 def steps(state: State) -> Iterator[tuple[list[Party], Mapping[Value, tuple]]]:

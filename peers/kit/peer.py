@@ -48,7 +48,7 @@ class Peer(ABC):
         """Of each script the outcome of each run. All scripts are run by one program."""
         if not scripts:
             return []
-        told = self.run(self.program([self.block(script, times, seed) for script in scripts]), seconds + len(scripts))
+        told = self.run(self.program([self.block(script, times, seed) for script in scripts]), seconds + 10 * len(scripts))
         seen = [Outcome.of(json.loads(line)) for line in told.splitlines() if line.startswith("{")]
         if len(seen) != times * len(scripts):
             raise Failed(f"{len(seen)} of {times * len(scripts)} runs were told: {told[-300:]}")

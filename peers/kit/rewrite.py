@@ -13,6 +13,14 @@ def rewritten(form: Form, change: Change) -> Form:
     return change(form)
 
 
+def outermost(form: Form, change: Change) -> Form:
+    """The form with what is changed in it changed; what stands inside a changed part is left as it is."""
+    changed = change(form)
+    if changed != form or not isinstance(form, tuple):
+        return changed
+    return tuple(outermost(part, change) for part in form)
+
+
 def everywhere(script: Script, change: Change) -> Script:
     """The script with each form of its bodies changed. Names of functions, and of what a `let` or a `set` sets, are forms too."""
     return tuple(Function(of.name, of.parameters, tuple(rewritten(form, change) for form in of.body)) for of in script)

@@ -2,7 +2,7 @@
 import itertools
 from collections.abc import Callable, Iterator
 
-from kit.rewrite import called_by, everywhere, named, rewritten
+from kit.rewrite import called_by, everywhere, named, outermost
 from kit.script import Form, Function, Script, parts_of, variables_of
 
 CALLED = ("guard", "withnack")
@@ -12,7 +12,7 @@ def early_offers(script: Script) -> Script:
     """A branch is offered before the guards and withnacks beside it are called: these may be left out, or be called once it is taken, and
     they are called in any order."""
     added: list[Function] = []
-    changed = tuple(Function(of.name, of.parameters, tuple(rewritten(form, lambda part: with_late_calls(part, of, added)) for form in of.body))
+    changed = tuple(Function(of.name, of.parameters, tuple(outermost(form, lambda part: with_late_calls(part, of, added)) for form in of.body))
                     for of in script)
     names = {name for word in CALLED for name in called_by(script, word)}
     late = tuple(Function(f"late_{of.name}", of.parameters, late_body(of.body)) for of in script if of.name in names)

@@ -138,9 +138,12 @@ let run main =
   let threads = List.init (Hashtbl.length ends) (Hashtbl.find ends) in
   Printf.printf "{\"lines\":%s,\"threads\":%s}\n%!" (listed (List.rev !lines)) (listed threads)
 
-let run_often (times, seed, main) =
-  for turn = 1 to times do
+(* Some at a time, since each sleeps most of its time. *)
+let rec run_often (times, seed, main) =
+  let some = min times 12 in
+  let children = List.init some (fun turn ->
     match Unix.fork () with
-    | 0 -> Random.init (seed + turn); run main; Unix._exit 0
-    | child -> ignore (Unix.waitpid [] child)
-  done
+    | 0 -> Random.init (seed + times - turn); run main; Unix._exit 0
+    | child -> child) in
+  List.iter (fun child -> ignore (Unix.waitpid [] child)) children;
+  if times > some then run_often (times - some, seed, main)
