@@ -33,7 +33,7 @@ impl Model for Choice {
     ghost invariant = { λ a. (is_bare_choice a.group ≡ true) × (group_nodes a.group ≤ max_leaves) };
 }
 
-/// The choices that were forced last, at most eight: each is one among at most 256 base events, none of which carries a value. A choice
+/// The choices that were forced last, at most eight: each has at most 256 nodes, and none of its base events carries a value. A choice
 /// that is forced again is shared ([`Forcing::start_again`](crate::Forcing::start_again)).
 #[derive(Drop)]
 pub struct Forced {
