@@ -1,5 +1,5 @@
 -- Which nacks have fired after a step.
-use Rattle.std.proofs.Common.{◌≡◌, ℕ, zero, suc, ◌<◌, ◌≤◌, ◌⊎◌, inl, inr, ⊎_elim, List, [], ◌∷◌, Option, Some, None, refl, ap, sym, ◌∙◌, arith}
+use Rattle.std.proofs.Common.{◌≡◌, ℕ, zero, suc, ◌+◌, ◌<◌, ◌≤◌, ◌⊎◌, inl, inr, ⊎_elim, List, [], ◌∷◌, Option, Some, None, refl, ap, sym, ◌∙◌, arith}
 use Rattle.std.specs.Prelude.{slice_get, slice_set, Any}
 use Rattle.std.specs.List.{All}
 use Rattle.cml_value.specs.Value.{PlainBase}
@@ -227,7 +227,7 @@ step_held {w = w} n (together t u g h a b r s x y p q d e m) k f =
     (one_of (HeldBy w k) _ _ f)
 
 -- the nack is in no branch of a party
-away : (k : ℕ) → Party → Type 0
+abbrev away : (k : ℕ) → Party → Type 0
 away k p = times_named k (branches p.group) ≡ 0
 
 step_leaves : {w w' : PlainWorld} {c : Committed} (d : Synchronizes w w' c) (k : ℕ) → All (away k) (those_in d) → slice_get w'.nacks k ≡ slice_get w.nacks k
