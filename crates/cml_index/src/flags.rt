@@ -66,6 +66,7 @@ pub(crate) fn is_lit_by(flags: &Flags, wait: Wait, tally: &mut Tally) -> bool
 }
 
 // How many of these leaves can be taken alone: each is looked at, and its light.
+#[inline(always)]
 pub(crate) fn count_lit(flags: &Flags, waits: &[Wait], tally: &mut Tally) -> usize
     ensures count { result ≡ length (filter (lit_wait (spec.told flags.now.entries)) waits.now) }
     ensures cost { tally.new ≤ tally.old + 2 * length waits.now }

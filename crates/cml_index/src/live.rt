@@ -236,6 +236,7 @@ impl Live {
     }
 
     // Reserves a place for each object of which one of these leaves is a side.
+    #[inline(always)]
     pub(crate) fn make_all(&mut self, waits: &[Wait]) -> Result<(), AllocError>
         ensures same { spec.IsAsLive self.old self.new }
         ensures there { OnOk result ((n : PairedId) →
@@ -248,6 +249,7 @@ impl Live {
     }
 
     // Brings the live objects up to date once these leaves have gone from their lanes. It takes no memory.
+    #[inline(always)]
     pub(crate) fn cut_all(&mut self, lanes: &Lanes, waits: &[Wait])
         requires was { (n : PairedId) → spec.have_side n (map slot_in waits.now) ≡ false →
             spec.is_in self.old n ≡ spec.is_live lanes.now n }
@@ -266,6 +268,7 @@ impl Live {
 
     // Brings the live objects up to date once these leaves have come to their lanes. Each object of which one is a side
     // has a place. It takes no memory.
+    #[inline(always)]
     pub(crate) fn add_all(&mut self, lanes: &Lanes, waits: &[Wait])
         requires there { (n : PairedId) → spec.have_side n (map slot_in waits.now) ≡ true →
             spec.HasPlace self.old n }
