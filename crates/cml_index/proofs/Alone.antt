@@ -1,6 +1,6 @@
 -- A group of one leaf: where it stands, and what is kept of it.
-use Rattle.std.proofs.Common.{◌≡◌, ◌<◌, ◌^◌, ℕ, true, false, zero, suc, List, [], ◌∷◌, length, map, get_or, cond, Option, Some, None, refl, ap, sym, subst, ◌∙◌, lit<, arith}
-use Rattle.std.specs.Prelude.{Result, Ok, Err, OnOk, OnErr}
+use Rattle.std.proofs.Common.{◌≡◌, ◌<◌, ◌≤◌, ◌+◌, ◌*◌, ◌^◌, ℕ, true, false, zero, suc, List, [], ◌∷◌, length, map, get_or, cond, Option, Some, None, refl, ap, sym, subst, ◌∙◌, lit<, arith}
+use Rattle.std.specs.Prelude.{Result, Ok, Err, OnOk, OnErr, IfSome}
 use Rattle.std.specs.List.{filter}
 use Rattle.cml_value.specs.Group.{PlainGroup, bases, scopes, nacks_of}
 use Rattle.cml_value.specs.declared.number.Tid.{Tid}
@@ -56,15 +56,27 @@ lone_gone tid slot k old new here elsewhere all =
     (λ on. subst (λ j. new j ≡ others tid (old j)) (sym (same_slot_is k slot on)) here)
     (λ off. elsewhere k off ∙ sym (others_all tid (old k) (sym all ∙ lone_none slot k off)))
 
+-- how much was looked at where its leaf came
+pub cost_lone : (t0 t1 t2 n m d : ℕ) → t1 ≤ t0 + (d + 2) → t2 ≤ t1 + m → t2 + (n + 1) * (d + 2) ≤ t0 + (n + 2) * (d + 2) + m
+cost_lone t0 t1 t2 n m d one two = omega (arith, one, two)
+
 -- what holds at its slot and at all others holds at each
 pub at_slot : (P : Slot → Type 0) (slot : Slot) → P slot → ((j : Slot) → same_slot j slot ≡ false → P j) → (k : Slot) → P k
 at_slot P slot here elsewhere k = decide (same_slot k slot) (λ on. subst P (sym (same_slot_is k slot on)) here) (λ off. elsewhere k off)
 
 -- what holds where it went well, and where it did not
-pub on_ok : {A E X Y : Type 0} (r : Result A E) → (X → Y) → OnOk r X → OnOk r Y
-on_ok (Ok a) f x = f x
-on_ok (Err e) f x = tt
+pub on_ok : {A E X Y : Type 0} (r : Result A E) → OnOk r X → (X → Y) → OnOk r Y
+on_ok (Ok a) x f = f x
+on_ok (Err e) x f = tt
 
-pub on_err : {A E X Y : Type 0} (r : Result A E) → (X → Y) → OnErr r X → OnErr r Y
-on_err (Ok a) f x = tt
-on_err (Err e) f x = f x
+pub on_err : {A E X Y : Type 0} (r : Result A E) → OnErr r X → (X → Y) → OnErr r Y
+on_err (Ok a) x f = tt
+on_err (Err e) x f = f x
+
+pub ok_any : {A E X : Type 0} (r : Result A E) → X → OnOk r X
+ok_any (Ok a) x = x
+ok_any (Err e) x = tt
+
+pub if_some : {A : Type 0} {P Q : A → Type 0} (o : Option A) → IfSome o P → ((a : A) → P a → Q a) → IfSome o Q
+if_some None x f = tt
+if_some (Some a) x f = f a x

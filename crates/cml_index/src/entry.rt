@@ -159,7 +159,7 @@ fn refill(post: &mut PendingThread, tid: Tid, group: &Group) -> Result<(), Alloc
 #[inline(never)]
 fn keep(spares: &mut Vec<Spare>, post: Box<PendingThread>) {
     let is_short = post.waits.capacity() <= SHORT && post.nacks.capacity() <= SHORT;
-    if is_short && spares.len() < spares.capacity() {
+    if spares.len() < spares.capacity() && is_short {
         spares.push_reserved(Spare { post });
     } else {
         drop(post);
@@ -205,15 +205,15 @@ impl Entry {
 
     // The entry of this thread and this group, which is one leaf that waits for this. It takes no memory.
     #[inline(always)]
-    pub(crate) fn lone(tid: Tid, group: &Group, waits: [Wait; 1]) -> Entry
-        requires { (wait : Wait) × IsLone group.now wait × (waits.entry ≡ wait ∷ []) }
+    pub(crate) fn lone(tid: Tid, group: &Group, wait: Wait) -> Entry
+        requires { IsLone group.now wait }
         ensures { result ≡ record { thread = tid.0; group = group.now } }
     {
         Entry {
             post: Post::Lone(LoneThread {
                 tid,
                 group: Snapshot::of(group),
-                waits,
+                waits: [wait],
             }),
         }
     }
@@ -221,8 +221,9 @@ impl Entry {
     // Keeps its lists for the next thread that comes, where it has some, there is room, and they are short.
     #[inline(always)]
     pub(crate) fn rest_in(self, spares: &mut Vec<Spare>) {
-        if let Post::Listed(post) = self.post {
-            keep(spares, post);
+        match self.post {
+            Post::Lone(lone) => drop(lone),
+            Post::Listed(post) => keep(spares, post),
         }
     }
 

@@ -259,7 +259,7 @@ impl IndexState {
         self.leaves += 1;
         self.lit += lit;
         self.live.add_all(&self.lanes, &waits);
-        self.entries.put(Entry::lone(tid, group, waits));
+        self.entries.put(Entry::lone(tid, group, wait));
         Ok(())
     }
 }

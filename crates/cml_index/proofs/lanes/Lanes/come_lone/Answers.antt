@@ -11,16 +11,16 @@ pub returns-in-Some-clause-lanes : goal.returns-in-Some-clause-lanes
 returns-in-Some-clause-lanes c =
     let old = c.args.self.now in
     let is : slot_in c.args.wait.now ≡ Some c.in-Some.slot.now = sym c.slot_ref.ensures ∙ ap option_copied c.in-Some.is in
-    on_ok c.come_lone_at.result (λ here k.
+    on_ok c.come_lone_at.result c.come_lone_at.ensures.here.places (λ here k.
     lone_came c.args.tid c.in-Some.slot.now k (lane_at old) (lane_at c.come_lone_at.new.self) here
     (λ j off. (c.come_lone_at.ensures.elsewhere j off).places) (c.requires.sorted k) (c.requires.new k)
     ∙ ap (λ s. with_run c.args.tid (slot_leaves k 0 (s ∷ [])) (lane_at old k)) (sym is))
-    c.come_lone_at.ensures.here.places
 
 pub returns-in-Some-clause-none : goal.returns-in-Some-clause-none
 returns-in-Some-clause-none c =
-    on_err c.come_lone_at.result (λ here. at_slot (λ k. lane_at c.come_lone_at.new.self k ≡ lane_at c.args.self.now k) c.in-Some.slot.now here
-    (λ j off. (c.come_lone_at.ensures.elsewhere j off).places)) c.come_lone_at.ensures.here.none
+    on_err c.come_lone_at.result c.come_lone_at.ensures.here.none (λ here.
+    at_slot (λ k. lane_at c.come_lone_at.new.self k ≡ lane_at c.args.self.now k) c.in-Some.slot.now here
+    (λ j off. (c.come_lone_at.ensures.elsewhere j off).places))
 
 pub returns-in-Some-clause-late : goal.returns-in-Some-clause-late
 returns-in-Some-clause-late c = at_slot (λ k. late_at c.come_lone_at.new.self k ≡ late_at c.args.self.now k) c.in-Some.slot.now
