@@ -42,10 +42,10 @@ lone_came tid slot k old new here elsewhere up away =
 
 -- so many leaves it has in its own slot, and none elsewhere
 pub lone_own : (slot : Slot) → length (slot_leaves slot 0 (Some slot ∷ [])) ≡ 1
-lone_own slot = ap (λ b. length (cond b (0 ∷ []) [])) (same_slot_self slot)
+lone_own slot = ap (λ b. length {A = ℕ} (cond b (0 ∷ []) [])) (same_slot_self slot)
 
 pub lone_none : (slot k : Slot) → same_slot k slot ≡ false → length (slot_leaves k 0 (Some slot ∷ [])) ≡ 0
-lone_none slot k off = ap (λ b. length (cond b (0 ∷ []) [])) off
+lone_none slot k off = ap (λ b. length {A = ℕ} (cond b (0 ∷ []) [])) off
 
 -- the lanes once its leaf has gone from its slot
 pub lone_gone : (tid : Tid) (slot k : Slot) (old new : Slot → List Place) → new slot ≡ others tid (old slot)
