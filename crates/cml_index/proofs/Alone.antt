@@ -1,5 +1,5 @@
 -- A group of one leaf: where it stands, and what is kept of it.
-use Rattle.std.proofs.Common.{◌≡◌, ◌<◌, ◌≤◌, ◌+◌, ◌*◌, ◌^◌, ℕ, true, false, zero, suc, List, [], ◌∷◌, length, map, get_or, cond, Option, Some, None, refl, ap, sym, subst, ◌∙◌, lit<, arith}
+use Rattle.std.proofs.Common.{◌≡◌, ◌<◌, ◌≤◌, ◌+◌, ◌*◌, ◌^◌, ◌||◌, Bool, ℕ, true, false, zero, suc, List, [], ◌∷◌, length, map, get_or, cond, Option, Some, None, refl, ap, sym, subst, ◌∙◌, lit<, arith}
 use Rattle.std.specs.Prelude.{Result, Ok, Err, OnOk, OnErr, IfSome}
 use Rattle.std.specs.List.{filter}
 use Rattle.cml_value.specs.Group.{PlainGroup, bases, scopes, nacks_of}
@@ -80,3 +80,7 @@ ok_any (Err e) x = tt
 pub if_some : {A : Type 0} {P Q : A → Type 0} (o : Option A) → IfSome o P → ((a : A) → P a → Q a) → IfSome o Q
 if_some None x f = tt
 if_some (Some a) x f = f a x
+
+pub or_none : (b : Bool) → (b || false) ≡ b
+or_none true = refl
+or_none false = refl

@@ -4,7 +4,7 @@ ghost use Rattle.std.specs.Prelude.{◌≡◌, ◌≤◌, ◌<◌, ◌+◌, ◌*
 ghost use Rattle.std.specs.{Borrow.{sem}, Option.{option_copied}};
 ghost use Rattle.cml_scan.specs.Order.{Every, Ascends, before};
 ghost use Rattle.cml_channel.specs.{Lanes.{is_own, is_others, others, with_run}, declared.pairing.PairedKind.TheVariants.{Swap}};
-ghost use Rattle.cml_index.specs.{declared.slot.Slot.{Slot}, declared.slot.Slot.TheVariants.{Waiters}, Slot.{same_slot}, Slots.{slot_in}};
+ghost use Rattle.cml_index.specs.{declared.slot.Slot.{Slot}, declared.slot.Slot.TheVariants.{Side, Waiters}, Slot.{same_slot}, Slots.{slot_in}};
 ghost use Rattle.cml_index.specs.Slots as spec;
 ghost use Rattle.cml_index.specs.Stands as stands;
 
@@ -13,7 +13,7 @@ use crate::stand::{
     LaneState, Ticks, come_in, come_lone_in, come_lone_tick, come_tick, count_in, count_tick, forget_tick, forgo_in, forgo_tick,
     go_in, go_lone_in, go_lone_tick, go_tick, note_in, note_tick,
 };
-use cml_channel::{Lane, PairedKind, Tally};
+use cml_channel::{Lane, PairedId, PairedKind, Tally};
 use cml_scan::Light;
 use cml_value::Tid;
 use indexmap::IndexMap;
@@ -205,6 +205,17 @@ impl Lanes {
         match self.stand(slot) {
             Some(stand) => Some(&stand.lane),
             None => None,
+        }
+    }
+
+    // How many offers stand on one side of the object.
+    #[inline(always)]
+    pub(crate) fn side_len(&self, object: PairedId, heads: bool) -> usize
+        ensures { result ≡ length (spec.lane_at self.now (Side heads object)) }
+    {
+        match self.side(object.kind, heads).get(object.number as usize) {
+            Some(stand) => stand.lane.len(),
+            None => 0,
         }
     }
 

@@ -11,7 +11,7 @@ ghost use Rattle.cml_channel.specs.declared.pairing.PairedId.{PairedId};
 use crate::crossing::{crossers, crossers_within};
 use crate::entries::Entries;
 use crate::entry::{Entry, Spare};
-use crate::flags::{Flags, count_lit, count_lit_within, flip};
+use crate::flags::{Flags, count_lit, count_lit_within, count_lone, flip};
 use crate::lanes::Lanes;
 use crate::live::Live;
 use crate::nacks::reserve_nacks;
@@ -73,14 +73,18 @@ impl IndexState {
             ≤ tally.old + self.old.leaves * (digits + 2) }
         ensures freed { HasFreed self.old self.new }
     {
-        let entry = self.entries.take(tid);
+        let Some(entry) = self.entries.get(tid) else {
+            unreachable!();
+        };
         let lit = count_lit_within(self.lit, &self.flags, entry.waits(), tally);
         self.lit -= lit;
         self.leaves -= entry.waits().len();
         self.lanes.go(tid, entry.waits(), tally);
         self.live.cut_all(&self.lanes, entry.waits());
         self.crossing -= crossers_within(self.crossing, entry.waits());
-        entry.rest_in(&mut self.spares);
+        // read where it lies until then
+        let gone = self.entries.take(tid);
+        gone.rest_in(&mut self.spares);
     }
 
     // These threads go. It takes no memory.
@@ -163,7 +167,7 @@ impl IndexState {
             return Err(AllocError);
         }
         self.entries.reserve()?;
-        self.live.make_all(&[wait])
+        self.live.make_lone(&wait)
     }
 
     // Makes room for a thread that will come, and notes which leaves are to come to which lanes. Out of memory (or too many leaves to
@@ -254,11 +258,10 @@ impl IndexState {
         ensures still { OnErr result (tally.new ≡ tally.old) }
     {
         self.lanes.come_lone(alloc, tid, &wait, tally)?;
-        let waits = [wait];
-        let lit = count_lit(&self.flags, &waits, tally);
+        let lit = count_lone(&self.flags, &wait, tally);
         self.leaves += 1;
         self.lit += lit;
-        self.live.add_all(&self.lanes, &waits);
+        self.live.add_lone(&self.lanes, &wait);
         self.entries.put(Entry::lone(tid, group, wait));
         Ok(())
     }

@@ -31,7 +31,7 @@ pub overflow_add-self-2 : goal.overflow_add-self-2
 overflow_add-self-2 c =
     let es = c.args.self.now.entries.items in
     let lit = lit_by (spec.told c.args.self.now.flags.entries) in
-    let count : c.count_lit-lit.result ≡ length (filter lit (bases c.args.group.now)) = c.count_lit-lit.ensures.count
+    let count : c.count_lone-lit.result ≡ length (filter lit (bases c.args.group.now)) = c.count_lone-lit.ensures.count
     ∙ ap (λ ws. length (filter (lit_wait (spec.told c.args.self.now.flags.entries)) ws)) (lone_post c.args.group.now c.args.wait c.requires.lone).same
     ∙ waits_lit (spec.told c.args.self.now.flags.entries) (bases c.args.group.now) in
     let a : length (filter lit (bases c.args.group.now)) ≤ length (bases c.args.group.now) = filter_fewer lit (bases c.args.group.now) in
@@ -48,11 +48,9 @@ come_lone-requires-clause-new c k =
     subst (Every (is_others c.args.tid)) (sym (c.requires.indexed.placed k)) (lane_others spec.slot_of k c.args.tid c.args.self.now.entries.items here)
 
 
-pub add_all-requires-clause-there : goal.add_all-requires-clause-there
-add_all-requires-clause-there c n e = c.requires.places n (sym (ap (have_side n) (lone_post c.args.group.now c.args.wait c.requires.lone).slots) ∙ e)
 
-pub add_all-requires-clause-was : goal.add_all-requires-clause-was
-add_all-requires-clause-was c n e =
+pub add_lone-requires-clause-was : goal.add_lone-requires-clause-was
+add_lone-requires-clause-was c n e =
     let es = c.args.self.now.entries.items in
     let lanes = c.args.self.now.lanes in
     let after = c.come_lone.new.self in
@@ -72,8 +70,8 @@ add_all-requires-clause-was c n e =
     ∙ ap (λ ps. may_meet (one_lane n.kind) (length (lane_at after (Side true n))) (length ps))
     (sym (same (Side false n) off.1))
 
-pub add_all-requires-clause-under : goal.add_all-requires-clause-under
-add_all-requires-clause-under c n dark =
+pub add_lone-requires-clause-under : goal.add_lone-requires-clause-under
+add_lone-requires-clause-under c n dark =
     let es = c.args.self.now.entries.items in
     let lanes = c.args.self.now.lanes in
     let after = c.come_lone.new.self in
@@ -91,8 +89,8 @@ add_all-requires-clause-under c n dark =
     (length (lane_at lanes (Side false n))) (length (lane_at after (Side true n)))
     (length (lane_at after (Side false n))) (more (Side true n)) (more (Side false n)) dark
 
-pub add_all-requires-clause-counted : goal.add_all-requires-clause-counted
-add_all-requires-clause-counted c n e on two =
+pub add_lone-requires-clause-counted : goal.add_lone-requires-clause-counted
+add_lone-requires-clause-counted c n e on two =
     let es = c.args.self.now.entries.items in
     let lanes = c.args.self.now.lanes in
     let after = c.come_lone.new.self in
@@ -126,7 +124,7 @@ returns-clause-indexed c =
     let apart = all_apart e.thread es c.requires.new in
     let lit = lit_by (spec.told c.args.self.now.flags.entries) in
     let count : length (c.args.wait ∷ []) ≡ length (bases e.group) = (lone_post c.args.group.now c.args.wait c.requires.lone).many in
-    let count_lit : c.count_lit-lit.result ≡ length (filter lit (bases e.group)) = c.count_lit-lit.ensures.count
+    let count_lit : c.count_lone-lit.result ≡ length (filter lit (bases e.group)) = c.count_lone-lit.ensures.count
     ∙ ap (λ ws. length (filter (lit_wait (spec.told c.args.self.now.flags.entries)) ws)) (lone_post c.args.group.now c.args.wait c.requires.lone).same
     ∙ waits_lit (spec.told c.args.self.now.flags.entries) (bases c.args.group.now) in
     let many = came_all e es c.requires.indexed.sorted apart in
@@ -143,8 +141,8 @@ returns-clause-indexed c =
       placed = λ k. c.in_ok-come_lone.ensures.lanes k ∙ ap (λ ls. with_run c.args.tid ls (lane_at c.args.self.now.lanes k)) (ap (slot_leaves k 0) (lone_post c.args.group.now c.args.wait c.requires.lone).slots)
           ∙ ap (with_run c.args.tid (slot_leaves k 0 (map spec.slot_of (bases e.group)))) (c.requires.indexed.placed k)
           ∙ came_lane spec.slot_of k c.args.tid e es refl ∙ ap (λ xs. lane_of spec.slot_of k (offers_of xs)) (sym after);
-      sides = c.add_all.ensures.live;
-      counted = c.add_all.ensures.counted;
+      sides = c.add_lone.ensures.live;
+      counted = c.add_lone.ensures.counted;
       still = λ k. c.come_lone.ensures.going k ∙ c.requires.indexed.still k;
       all = omega (arith, many, count, now, c.requires.indexed.all);
       cross = omega (arith, many_cross, crossing, now_cross, c.requires.indexed.cross);
@@ -163,7 +161,7 @@ returns-clause-idle c k = c.come_lone.ensures.late k ∙ c.requires.idle k
 
 pub returns-clause-cost : goal.returns-clause-cost
 returns-clause-cost c digits few =
-    let one = c.count_lit-lit.ensures.cost in
+    let one = c.count_lone-lit.ensures.cost in
     let two = c.come_lone.ensures.cost digits few in
     omega (arith, one, two)
 
