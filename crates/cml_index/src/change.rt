@@ -1,9 +1,9 @@
 //! A change as a whole.
 
-ghost use Rattle.std.specs.Prelude.{◌≡◌, ◌≤◌, ◌+◌, ◌*◌, ℕ, true, false, not, if◌then◌else◌, Some, None, length, OnOk, OnErr, IsOk};
+ghost use Rattle.std.specs.Prelude.{◌≡◌, ◌≤◌, ◌+◌, ◌*◌, ℕ, true, false, not, ◌≢◌, if◌then◌else◌, Some, None, length, All, OnOk, OnErr, IsOk};
 ghost use Rattle.cml_value.specs.Group.{bases};
 ghost use Rattle.cml_scan.specs.{declared.object.Light.{Light}, Order.{Every}, Table.{without, with_entry, changed, has_light, lit_after, AreApart, CanChange}};
-ghost use Rattle.cml_index.specs.{Cores.{seen, IsIndexed, IsAtRest, AreThere, IsSame, IsStill, HasFreed, HasRoom}, Slots.{HaveDigits}};
+ghost use Rattle.cml_index.specs.{Cores.{seen, IsIndexed, IsAtRest, AreThere, IsSame, IsStill, HasFreed, HasRoom}, Slots.{HaveDigits}, Waits.{IsLone}};
 ghost use Rattle.cml_index.specs.Posts as spec;
 
 use crate::entry::Entry;

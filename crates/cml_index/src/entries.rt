@@ -28,6 +28,27 @@ impl Seat {
     {
         self.entry.as_ref()
     }
+
+    // Puts the entry in. Only where one is there is there anything to be given up, and that is done apart.
+    #[inline(always)]
+    fn put(&mut self, entry: Entry)
+        ensures { self.new ≡ record self.old { entry = Some entry } }
+    {
+        match &self.entry {
+            Some(_) => self.give_up(entry),
+            None => {
+                self.entry = Some(entry);
+            }
+        }
+    }
+
+    // Puts the entry in, and gives up the one that was there.
+    #[inline(never)]
+    fn give_up(&mut self, entry: Entry)
+        ensures { self.new ≡ record self.old { entry = Some entry } }
+    {
+        self.entry = Some(entry);
+    }
 }
 
 // The pending threads, ascending, each in its seat. Seats of threads that have gone are kept while they are not too many.
@@ -187,8 +208,8 @@ fn fill(seats: &mut Vec<Seat>, at: usize, entry: Entry)
     ensures seats { (d : Seat) → seats.new.items ≡ slice_set seats.old.items at
         (record { tid = (get_or seats.old.items at d).tid; entry = Some entry }) }
 {
-    let was = seats[at].entry.replace(entry);
-    drop(was);
+    let seat = &mut seats[at];
+    seat.put(entry);
 }
 
 // Takes the entry from the seat at this place, if there is one.

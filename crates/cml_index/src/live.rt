@@ -103,6 +103,7 @@ impl Live {
     }
 
     // Reserves a place for the object, so that it can be put in.
+    #[inline(always)]
     fn make(&mut self, object: PairedId) -> Result<(), AllocError>
         ensures same { spec.IsAsLive self.old self.new }
         ensures there { OnOk result (spec.HasPlace self.new object) }
@@ -146,6 +147,7 @@ impl Live {
     }
 
     // Takes the object out if it is live no longer, and counts it anew if it still is. One that is not in stays out, and no lane is looked up.
+    #[inline(always)]
     fn cut(&mut self, lanes: &Lanes, object: PairedId)
         ensures here { spec.is_in self.new object
             ≡ (spec.is_in self.old object && spec.is_live lanes.now object) }
@@ -167,6 +169,7 @@ impl Live {
     }
 
     // Puts the object in where it is live, and counts it; its place is reserved.
+    #[inline(always)]
     fn add(&mut self, lanes: &Lanes, object: PairedId)
         requires { spec.HasPlace self.old object }
         ensures here { spec.is_in self.new object

@@ -29,10 +29,10 @@ returns-in-Ok-clause-picked g c =
     let rows = scan_of c.args.table.now.entries (told c.args.table.now.flags) in
     let none : c.pick-first.result ≡ 0 = omega (arith, c.pick-first.ensures.below) in
     only_picked (record { picks = g.C.Chooser.picks; next = g.C.Chooser.next }) c.args.chooser.now rows c.in-Ok.row c.pick.result
-    (c.pick.ensures.picked ∙ ap (g.C.Chooser.picks c.args.chooser.now) c.head_count.ensures) c.in-Ok.ensures.row
+    (c.pick.ensures.picked ∙ ap (g.C.Chooser.picks c.args.chooser.now) c.head_count-heads.ensures) c.in-Ok.ensures.row
     (ap (λ x. g.C.Chooser.picks x 1) (sym c.pick.ensures.next) ∙ sym c.pick-first.ensures.picked ∙ none)
 
 pub returns-in-Err-clause-row : goal.returns-in-Err-clause-row
 returns-in-Err-clause-row g c =
     let rows = scan_of c.args.table.now.entries (told c.args.table.now.flags) in
-    has_there rows c.partner.result (c.a_picked_row_is_in_the_scan.ensures rows c.pick.result c.pick-2.result c.in-Err.head c.partner.result c.in-Err.ensures.head c.partner.ensures).0
+    has_there rows c.partner.result (c.a_picked_row_is_in_the_scan.ensures rows c.pick.result c.pick-in-Err.result c.in-Err.head c.partner.result c.in-Err.ensures.head c.partner.ensures).0

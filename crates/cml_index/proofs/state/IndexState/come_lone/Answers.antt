@@ -6,15 +6,6 @@ use Rattle.cml_index.proofs.Alone.{cost_lone}
 use Rattle.cml_index.proofs.Forgotten.{all_out}
 use Rattle.cml_index.proofs.state.IndexState.come_lone.Goals as goal
 
-pub returns-in_err-place_lone-clause-told : goal.returns-in_err-place_lone-clause-told
-returns-in_err-place_lone-clause-told c = record {
-  ok = tt;
-  ok_lit = tt;
-  err = c.in_err-place_lone.ensures.none;
-  err_lit = c.place_lone.ensures.told;
-  err_cost = c.in_err-place_lone.ensures.still;
-}
-
 pub forget_all-requires-clause-idle : goal.forget_all-requires-clause-idle
 forget_all-requires-clause-idle c k = ap (λ x. late_at x k) c.tell_both.ensures.still.lanes ∙ c.place_lone.ensures.idle k
 

@@ -8,7 +8,7 @@ use Rattle.cml_scan.specs.Light.{lit_by}
 use Rattle.cml_scan.specs.Order.{IsSorted, Every, Ascends, before}
 use Rattle.cml_scan.proofs.Ordered.{sorted_with}
 use Rattle.cml_channel.specs.Lanes.{is_others, with_run}
-use Rattle.std.specs.Prelude.{List}
+use Rattle.std.specs.Prelude.{List, Result, Ok, Err, OnErr}
 use Rattle.cml_index.specs.declared.slot.Slot.{Slot}
 use Rattle.cml_index.specs.declared.slot.Slot.TheVariants.{Side}
 use Rattle.cml_index.specs.Slots.{slot_in, lane_at, lane_of, slot_leaves, has_slot}
@@ -36,7 +36,8 @@ overflow_add-self-2 c =
     ∙ waits_lit (spec.told c.args.self.now.flags.entries) (bases c.args.group.now) in
     let a : length (filter lit (bases c.args.group.now)) ≤ length (bases c.args.group.now) = filter_fewer lit (bases c.args.group.now) in
     let b : length (spec.lit_offers c.args.self.now.flags.entries es) ≤ length (offers_of es) = filter_fewer (λ (o : Rattle.cml_scan.specs.Scan.PlainOffer). lit o.base) (offers_of es) in
-    omega (arith, count, a, b, c.requires.indexed.all, c.requires.indexed.alone, c.requires.small)
+    let many : length (c.args.wait ∷ []) ≡ length (bases c.args.group.now) = (lone_post c.args.group.now c.args.wait c.requires.lone).many in
+    omega (arith, count, a, b, many, c.requires.indexed.all, c.requires.indexed.alone, c.requires.small)
 
 pub come_lone-requires-clause-sorted : goal.come_lone-requires-clause-sorted
 come_lone-requires-clause-sorted c k = subst (Ascends before) (sym (c.requires.indexed.placed k)) (lane-ascends spec.slot_of k c.args.self.now.entries.items c.requires.indexed.sorted)
@@ -44,10 +45,7 @@ come_lone-requires-clause-sorted c k = subst (Ascends before) (sym (c.requires.i
 pub come_lone-requires-clause-new : goal.come_lone-requires-clause-new
 come_lone-requires-clause-new c k =
     let apart = all_apart c.args.tid.0 c.args.self.now.entries.items c.requires.new in
-    let here = apart in
-    subst (Every (is_others c.args.tid)) (sym (c.requires.indexed.placed k)) (lane_others spec.slot_of k c.args.tid c.args.self.now.entries.items here)
-
-
+    subst (Every (is_others c.args.tid)) (sym (c.requires.indexed.placed k)) (lane_others spec.slot_of k c.args.tid c.args.self.now.entries.items apart)
 
 pub add_lone-requires-clause-was : goal.add_lone-requires-clause-was
 add_lone-requires-clause-was c n e =
@@ -56,13 +54,11 @@ add_lone-requires-clause-was c n e =
     let after = c.come_lone.new.self in
     let tid = c.args.tid in
     let apart = all_apart c.args.tid.0 es c.requires.new in
-    let away = apart in
     let up : (k : Slot) → Ascends before (lane_at lanes k) = λ k. subst (Ascends before) (sym (c.requires.indexed.placed k)) (lane-ascends spec.slot_of k es c.requires.indexed.sorted) in
-    let new_ : (k : Slot) → Every (is_others tid) (lane_at lanes k) = λ k. subst (Every (is_others tid)) (sym (c.requires.indexed.placed k)) (lane_others spec.slot_of k tid es away) in
-    let same_slots : map slot_in (c.args.wait ∷ []) ≡ map slot_in (c.args.wait ∷ []) = (lone_post c.args.group.now c.args.wait c.requires.lone).slots ∙ sym (lone_post c.args.group.now c.args.wait c.requires.lone).slots in
+    let new_ : (k : Slot) → Every (is_others tid) (lane_at lanes k) = λ k. subst (Every (is_others tid)) (sym (c.requires.indexed.placed k)) (lane_others spec.slot_of k tid es apart) in
     let same : (k : Slot) → has_slot k (map slot_in (c.args.wait ∷ [])) ≡ false → lane_at after k ≡ lane_at lanes k = λ k off.
     c.in_ok-come_lone.ensures.lanes k ∙ ap (λ ls. with_run tid ls (lane_at lanes k))
-    (ap (slot_leaves k 0) same_slots ∙ no_leaves k 0 (map slot_in (c.args.wait ∷ [])) off)
+    (no_leaves k 0 (map slot_in (c.args.wait ∷ [])) off)
     ∙ with_none tid (lane_at lanes k) (up k) (new_ k) in
     let off = no_sides n (map slot_in (c.args.wait ∷ [])) e in
     c.requires.indexed.sides n ∙ ap (λ ps. may_meet (one_lane n.kind) (length ps)
@@ -78,9 +74,8 @@ add_lone-requires-clause-under c n dark =
     let tid = c.args.tid in
     let ls : (k : Slot) → List ℕ = λ k. slot_leaves k 0 (map slot_in (c.args.wait ∷ [])) in
     let apart = all_apart c.args.tid.0 es c.requires.new in
-    let away = apart in
     let up : (k : Slot) → Ascends before (lane_at lanes k) = λ k. subst (Ascends before) (sym (c.requires.indexed.placed k)) (lane-ascends spec.slot_of k es c.requires.indexed.sorted) in
-    let new_ : (k : Slot) → Every (is_others tid) (lane_at lanes k) = λ k. subst (Every (is_others tid)) (sym (c.requires.indexed.placed k)) (lane_others spec.slot_of k tid es away) in
+    let new_ : (k : Slot) → Every (is_others tid) (lane_at lanes k) = λ k. subst (Every (is_others tid)) (sym (c.requires.indexed.placed k)) (lane_others spec.slot_of k tid es apart) in
     let more : (k : Slot) → length (lane_at lanes k) ≤ length (lane_at after k) = λ k.
     let few : length (lane_at lanes k) ≤ length (with_run tid (ls k) (lane_at lanes k)) = with_longer tid (ls k) (lane_at lanes k) (up k) (new_ k) in
     let same : length (lane_at after k) ≡ length (with_run tid (ls k) (lane_at lanes k)) = ap length (c.in_ok-come_lone.ensures.lanes k) in
@@ -97,17 +92,14 @@ add_lone-requires-clause-counted c n e on two =
     let tid = c.args.tid in
     let k = Side true n in
     let apart = all_apart c.args.tid.0 es c.requires.new in
-    let away = apart in
     let up : Ascends before (lane_at lanes k) = subst (Ascends before) (sym (c.requires.indexed.placed k)) (lane-ascends spec.slot_of k es c.requires.indexed.sorted) in
-    let new_ : Every (is_others tid) (lane_at lanes k) = subst (Every (is_others tid)) (sym (c.requires.indexed.placed k)) (lane_others spec.slot_of k tid es away) in
-    let same_slots : map slot_in (c.args.wait ∷ []) ≡ map slot_in (c.args.wait ∷ []) = (lone_post c.args.group.now c.args.wait c.requires.lone).slots ∙ sym (lone_post c.args.group.now c.args.wait c.requires.lone).slots in
+    let new_ : Every (is_others tid) (lane_at lanes k) = subst (Every (is_others tid)) (sym (c.requires.indexed.placed k)) (lane_others spec.slot_of k tid es apart) in
     let off = no_sides n (map slot_in (c.args.wait ∷ [])) e in
     let same : lane_at after k ≡ lane_at lanes k =
     c.in_ok-come_lone.ensures.lanes k ∙ ap (λ ls. with_run tid ls (lane_at lanes k))
-    (ap (slot_leaves k 0) same_slots ∙ no_leaves k 0 (map slot_in (c.args.wait ∷ [])) off.0)
+    (no_leaves k 0 (map slot_in (c.args.wait ∷ [])) off.0)
     ∙ with_none tid (lane_at lanes k) up new_ in
     c.requires.indexed.counted n on two ∙ ap length (sym same)
-
 
 pub returns-clause-came : goal.returns-clause-came
 returns-clause-came c = record {
@@ -130,7 +122,8 @@ returns-clause-indexed c =
     let many = came_all e es c.requires.indexed.sorted apart in
     let many_lit = came_count lit e es c.requires.indexed.sorted apart in
     let many_cross = came_those spec.is_crosser e es c.requires.indexed.sorted apart in
-    let crossing : 0 ≡ one_if (spec.is_crosser e) 1 = ap (λ b. one_if b 1) (one_side (c.args.wait ∷ []) (omega arith)) ∙ ap (λ ss. one_if (crosses ss) 1) (lone_post c.args.group.now c.args.wait c.requires.lone).slots in
+    let crossing : 0 ≡ one_if (spec.is_crosser e) 1 = ap (λ b. one_if b 1) (one_side (c.args.wait ∷ []) (omega arith))
+    ∙ ap (λ ss. one_if (crosses ss) 1) (lone_post c.args.group.now c.args.wait c.requires.lone).slots in
     let now_cross : length (filter spec.is_crosser c.put.new.self.items) ≡ length (filter spec.is_crosser (with_entry e es)) = ap (λ xs. length (filter spec.is_crosser xs)) after in
     let now : length (offers_of c.put.new.self.items) ≡ length (offers_of (with_entry e es)) = ap (λ xs. length (offers_of xs)) after in
     let now_lit : length (spec.lit_offers c.args.self.now.flags.entries c.put.new.self.items)
@@ -138,7 +131,8 @@ returns-clause-indexed c =
     (λ xs. length (filter (λ o. lit o.base) (offers_of xs))) after in
     record {
       sorted = subst IsSorted (sym after) (sorted_with e es c.requires.indexed.sorted);
-      placed = λ k. c.in_ok-come_lone.ensures.lanes k ∙ ap (λ ls. with_run c.args.tid ls (lane_at c.args.self.now.lanes k)) (ap (slot_leaves k 0) (lone_post c.args.group.now c.args.wait c.requires.lone).slots)
+      placed = λ k. c.in_ok-come_lone.ensures.lanes k
+          ∙ ap (λ ls. with_run c.args.tid ls (lane_at c.args.self.now.lanes k)) (ap (slot_leaves k 0) (lone_post c.args.group.now c.args.wait c.requires.lone).slots)
           ∙ ap (with_run c.args.tid (slot_leaves k 0 (map spec.slot_of (bases e.group)))) (c.requires.indexed.placed k)
           ∙ came_lane spec.slot_of k c.args.tid e es refl ∙ ap (λ xs. lane_of spec.slot_of k (offers_of xs)) (sym after);
       sides = c.add_lone.ensures.live;
@@ -165,8 +159,13 @@ returns-clause-cost c digits few =
     let two = c.come_lone.ensures.cost digits few in
     omega (arith, one, two)
 
+-- what holds anyway holds where memory ran out
+anyway : {A E X : Type 0} (r : Result A E) → X → OnErr r X
+anyway (Ok a) x = tt
+anyway (Err e) x = x
+
 pub returns-in_err-come_lone-clause-same : goal.returns-in_err-come_lone-clause-same
-returns-in_err-come_lone-clause-same c = record { entries = refl; leaves = refl; lanes = c.in_err-come_lone.ensures.none; told = λ l. refl }
+returns-in_err-come_lone-clause-same c = anyway c.from_residual.result (record { entries = refl; leaves = refl; lanes = c.in_err-come_lone.ensures.none; told = λ l. refl })
 
 pub returns-in_err-come_lone-clause-indexed : goal.returns-in_err-come_lone-clause-indexed
 returns-in_err-come_lone-clause-indexed c =

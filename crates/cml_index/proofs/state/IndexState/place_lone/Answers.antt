@@ -14,10 +14,11 @@ returns-in_err-reserve_lights-clause-indexed c =
     c.args.self.now.lit c.requires.indexed c.reserve_lights.ensures.kept
 
 pub make_place-requires : goal.make_place-requires
-make_place-requires c =
-    reserved_indexed c.args.self.now.entries.items c.args.self.now.lanes c.args.self.now.live
-    c.args.self.now.flags.entries c.reserve_lights.new.flags.entries c.args.self.now.leaves c.args.self.now.crossing
-    c.args.self.now.lit c.requires.indexed c.reserve_lights.ensures.kept
+make_place-requires c = record {
+  indexed = reserved_indexed c.args.self.now.entries.items c.args.self.now.lanes c.args.self.now.live
+      c.args.self.now.flags.entries c.reserve_lights.new.flags.entries c.args.self.now.leaves c.args.self.now.crossing
+      c.args.self.now.lit c.requires.indexed c.reserve_lights.ensures.kept;
+}
 
 pub enter_lone-requires-clause-idle : goal.enter_lone-requires-clause-idle
 enter_lone-requires-clause-idle c k = ap (λ x. late_at x k) c.make_place.ensures.lanes ∙ c.requires.idle k
