@@ -87,11 +87,7 @@ pub(crate) fn count_lone(flags: &Flags, wait: &Wait, tally: &mut Tally) -> usize
     ensures cost { tally.new ≤ tally.old + 2 }
 {
     tally.add();
-    if is_lit_by(flags, *wait, tally) {
-        1
-    } else {
-        0
-    }
+    if is_lit_by(flags, *wait, tally) { 1 } else { 0 }
 }
 
 // The same as `count_lit`, where it is known that not more than this many can be: where that is 0, no leaf is looked at.

@@ -10,8 +10,9 @@ ghost use Rattle.cml_index.specs.Stands as stands;
 
 use crate::slot::{LaneKind, Slot, Spot, Wait, spot_of_light};
 use crate::stand::{
-    LaneState, Ticks, come_in, come_lone_in, come_lone_tick, come_tick, count_in, count_tick, forget_tick, forgo_in, forgo_tick,
-    go_in, go_lone_in, go_lone_tick, go_tick, note_in, note_tick,
+    LaneState, Ticks, come_in, come_lone_in, come_lone_tick, come_tick, count_in, count_tick,
+    forget_tick, forgo_in, forgo_tick, go_in, go_lone_in, go_lone_tick, go_tick, note_in,
+    note_tick,
 };
 use cml_channel::{Lane, PairedId, PairedKind, Tally};
 use cml_scan::Light;
@@ -401,7 +402,13 @@ impl Lanes {
 
     // Puts the only leaf of the thread into the lane, which is made if it is not there yet. Out of memory: no offer is there that was not.
     #[inline(always)]
-    fn come_lone_at(&mut self, alloc: Global, slot: &Slot, tid: Tid, tally: &mut Tally) -> Result<(), AllocError>
+    fn come_lone_at(
+        &mut self,
+        alloc: Global,
+        slot: &Slot,
+        tid: Tid,
+        tally: &mut Tally,
+    ) -> Result<(), AllocError>
         requires { Every (is_others tid) (spec.lane_at self.old slot.now) }
         ensures here { stands.ComesLone result tid (stands.stand_at self.old slot.now) (stands.stand_at self.new slot.now) }
         ensures elsewhere { (k : Slot) → same_slot k slot.now ≡ false →
@@ -424,7 +431,13 @@ impl Lanes {
 
     // The same at the lane of those who wait for the light.
     #[inline(never)]
-    fn come_lone_waiter(&mut self, alloc: Global, light: &Light, tid: Tid, tally: &mut Tally) -> Result<(), AllocError>
+    fn come_lone_waiter(
+        &mut self,
+        alloc: Global,
+        light: &Light,
+        tid: Tid,
+        tally: &mut Tally,
+    ) -> Result<(), AllocError>
         requires { Every (is_others tid) (spec.lane_at self.old (Waiters light.now)) }
         ensures here { stands.ComesLone result tid (stands.stand_at self.old (Waiters light.now))
             (stands.stand_at self.new (Waiters light.now)) }
@@ -474,7 +487,12 @@ impl Lanes {
             tally.new ≤ tally.old + digits }
     {
         match spot_of_light(*light) {
-            Spot::Listed { row, number } => go_lone_in(self.row_mut(row), number as usize, tid, tally),
+            Spot::Listed { row, number } => go_lone_in(
+                self.row_mut(row),
+                number as usize,
+                tid,
+                tally,
+            ),
             Spot::Tick(tick) => go_lone_tick(&mut self.ticks, tick, tid, tally),
         }
     }
@@ -635,7 +653,13 @@ impl Lanes {
 
     // Puts the only leaf of the thread, which waits for this, into its lane, if it waits in one. Out of memory: no offer is there that was not.
     #[inline(always)]
-    pub(crate) fn come_lone(&mut self, alloc: Global, tid: Tid, wait: &Wait, tally: &mut Tally) -> Result<(), AllocError>
+    pub(crate) fn come_lone(
+        &mut self,
+        alloc: Global,
+        tid: Tid,
+        wait: &Wait,
+        tally: &mut Tally,
+    ) -> Result<(), AllocError>
         requires sorted { (k : Slot) → Ascends before (spec.lane_at self.old k) }
         requires new { (k : Slot) → Every (is_others tid) (spec.lane_at self.old k) }
         ensures lanes { OnOk result ((k : Slot) → spec.lane_at self.new k

@@ -120,7 +120,12 @@ fn row_with(head: Place, other: Place, partner_threads: PartnerThreads) -> Optio
 
 // The row of the leaf with the only offer in the lane, where there is only one and its thread is meant: one look.
 #[inline(always)]
-fn row_in(lane: &Lane, head: Place, partner_threads: PartnerThreads, tally: &mut Tally) -> Option<Meet>
+fn row_in(
+    lane: &Lane,
+    head: Place,
+    partner_threads: PartnerThreads,
+    tally: &mut Tally,
+) -> Option<Meet>
     ensures place { IfSome result (λ row. place_of row ≡ head) }
     ensures only { IfSome result (λ row. map (pair_of head) (those partner_threads lane.now.places) ≡ row ∷ []) }
     ensures cost { tally.new ≤ tally.old + 1 }

@@ -269,7 +269,12 @@ pub(crate) fn come_lone_in(
 
 // The same at a stand that was made.
 #[inline(always)]
-fn come_lone_there(row: &mut Vec<LaneState>, number: usize, tid: Tid, tally: &mut Tally) -> Result<(), AllocError>
+fn come_lone_there(
+    row: &mut Vec<LaneState>,
+    number: usize,
+    tid: Tid,
+    tally: &mut Tally,
+) -> Result<(), AllocError>
     requires there { number < length row.old.items }
     requires new { Every (is_others tid) (spec.places_in (slice_get row.old.items number)) }
     ensures here { spec.ComesLone result tid (slice_get row.old.items number) (slice_get row.new.items number) }
