@@ -2,7 +2,7 @@ use Rattle.std.proofs.Common.{◌≡◌, true, false, map, drop}
 use Rattle.cml_channel.specs.declared.pairing.PairedId.{PairedId}
 use Rattle.cml_index.specs.Slots.{slot_in}
 use Rattle.cml_index.specs.Live as spec
-use Rattle.cml_index.proofs.live.Live.cut_all.Given as goal
+use Rattle.cml_index.proofs.live.Live.cut_many.Given as goal
 
 -- the objects are right that no leaf touches that is left
 abbrev pub invariant-loop-wait : goal.invariant-loop-wait

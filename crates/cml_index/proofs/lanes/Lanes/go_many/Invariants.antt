@@ -3,7 +3,7 @@ use Rattle.cml_index.specs.Slots as spec
 use Rattle.cml_index.specs.Slots.{slot_in}
 use Rattle.cml_index.specs.Stands as stands
 use Rattle.cml_index.proofs.Walks.{IsDone}
-use Rattle.cml_index.proofs.lanes.Lanes.go.Given as goal
+use Rattle.cml_index.proofs.lanes.Lanes.go_many.Given as goal
 
 -- the leaves have gone from the slots so far
 abbrev pub invariant-loop-wait : goal.invariant-loop-wait
