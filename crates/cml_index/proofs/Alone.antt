@@ -1,5 +1,5 @@
 -- A group of one leaf: where it stands, and what is kept of it.
-use Rattle.std.proofs.Common.{◌≡◌, ◌<◌, ◌≤◌, ◌+◌, ◌*◌, ◌^◌, ◌||◌, Bool, ℕ, true, false, zero, suc, List, [], ◌∷◌, length, map, get_or, cond, Option, Some, None, refl, ap, sym, subst, ◌∙◌, lit<, arith}
+use Rattle.std.proofs.Common.{◌≡◌, ◌<◌, ◌≤◌, ◌+◌, ◌*◌, ◌||◌, Bool, ℕ, true, false, List, [], ◌∷◌, length, map, get_or, cond, Option, Some, None, refl, ap, sym, subst, ◌∙◌, lit<, arith}
 use Rattle.std.specs.Prelude.{Result, Ok, Err, OnOk, OnErr, IfSome}
 use Rattle.std.specs.List.{filter}
 use Rattle.cml_value.specs.Group.{PlainGroup, bases, scopes, nacks_of}
@@ -10,10 +10,10 @@ use Rattle.cml_channel.specs.Lanes.{is_own, is_others, others, with_run}
 use Rattle.cml_index.specs.declared.slot.Slot.{Slot}
 use Rattle.cml_index.specs.declared.slot.Wait.{Wait}
 use Rattle.cml_index.specs.Slot.{same_slot}
-use Rattle.cml_index.specs.Slots.{slot_leaves, has_slot}
+use Rattle.cml_index.specs.Slots.{slot_leaves}
 use Rattle.cml_index.specs.Waits.{leaf_wait, IsPost, IsLone}
 use Rattle.cml_index.proofs.Waits.{is_post}
-use Rattle.cml_index.proofs.Walks.{same_slot_is, same_slot_self, with_none, others_all, no_leaves, decide}
+use Rattle.cml_index.proofs.Walks.{same_slot_is, same_slot_self, with_none, others_all, decide}
 
 -- a list of one is its first
 pub one_only : {X : Type 0} (xs : List X) (d : X) → 1 ≤ length xs → length xs < 2 → xs ≡ get_or xs 0 d ∷ []

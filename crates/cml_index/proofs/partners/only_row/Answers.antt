@@ -1,5 +1,4 @@
-use Rattle.std.proofs.Common.{◌≡◌, ◌∙◌, cond, [], ◌∷◌, ap, sym}
-use Rattle.std.specs.Prelude.{IfSome}
+use Rattle.std.proofs.Common.{◌∙◌, cond, [], ◌∷◌, ap, sym}
 use Rattle.cml_scan.specs.declared.meet.Meet.TheVariants.{Single}
 use Rattle.cml_scan.specs.Scan.{offers_of}
 use Rattle.cml_index.specs.Posts as spec

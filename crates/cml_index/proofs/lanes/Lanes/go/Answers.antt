@@ -1,4 +1,4 @@
-use Rattle.std.proofs.Common.{◌≡◌, ◌≤◌, ◌+◌, ◌*◌, ◌∷◌, [], length, map, ap, sym, subst, ◌∙◌, arith}
+use Rattle.std.proofs.Common.{◌≡◌, ◌≤◌, ◌+◌, ◌*◌, length, map, ap, sym, subst, ◌∙◌, arith}
 use Rattle.cml_index.specs.Slots.{slot_in, slot_leaves}
 use Rattle.cml_index.proofs.Alone.{one_only}
 use Rattle.cml_index.proofs.lanes.Lanes.go.Goals as goal

@@ -1,10 +1,7 @@
-use Rattle.std.proofs.Common.{◌≡◌, ◌≤◌, ◌∷◌, [], length, Option, Some, None, refl, ap, sym, ◌∙◌, arith}
-use Rattle.std.specs.List.{filter}
+use Rattle.std.proofs.Common.{◌≡◌, ◌≤◌, ◌∷◌, [], length, Some, None, ap, sym, ◌∙◌, arith}
 use Rattle.std.specs.Option.{option_copied}
-use Rattle.cml_index.specs.declared.slot.Slot.{Slot}
 use Rattle.cml_index.specs.Slots.{slot_in, slot_leaves, lane_at, late_at, going_at, room_at}
 use Rattle.cml_index.specs.Stands.{places_in, late_in, going_in, room_in}
-use Rattle.cml_channel.specs.Lanes.{is_own, others}
 use Rattle.cml_index.proofs.Walks.{others_all}
 use Rattle.cml_index.proofs.Alone.{lone_gone, lone_own, at_slot}
 use Rattle.cml_index.proofs.lanes.Lanes.go_lone.Goals as goal

@@ -1,5 +1,4 @@
-use Rattle.std.proofs.Common.{◌≡◌, ◌∷◌, [], refl, ap, sym, ◌∙◌}
-use Rattle.cml_channel.specs.declared.pairing.PairedId.{PairedId}
+use Rattle.std.proofs.Common.{◌∷◌, [], refl, ap, sym, ◌∙◌}
 use Rattle.cml_index.specs.Slots.{slot_in}
 use Rattle.cml_index.specs.Live as spec
 use Rattle.cml_index.proofs.Alone.{or_none}

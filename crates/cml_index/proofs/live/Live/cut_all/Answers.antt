@@ -1,4 +1,4 @@
-use Rattle.std.proofs.Common.{◌≡◌, ◌∷◌, [], map, ap, ◌∙◌, sym}
+use Rattle.std.proofs.Common.{map, ap, ◌∙◌}
 use Rattle.cml_index.specs.Slots.{slot_in}
 use Rattle.cml_index.specs.Live as spec
 use Rattle.cml_index.proofs.Alone.{one_only}

@@ -1,4 +1,4 @@
-use Rattle.std.proofs.Common.{◌≡◌, ◌∙◌, ◌||◌, Bool, true, false, ◌∷◌, [], ap, sym, refl}
+use Rattle.std.proofs.Common.{◌∙◌, ap, sym}
 use Rattle.cml_index.specs.Live as spec
 use Rattle.cml_index.specs.Slots.{slot_in}
 use Rattle.cml_index.proofs.Alone.{on_ok, or_none}

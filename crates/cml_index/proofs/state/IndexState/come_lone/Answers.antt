@@ -1,4 +1,4 @@
-use Rattle.std.proofs.Common.{◌≡◌, ◌∙◌, ap, arith}
+use Rattle.std.proofs.Common.{◌∙◌, ap}
 use Rattle.cml_scan.specs.Table.{lit_after}
 use Rattle.cml_index.specs.Slots.{late_at}
 use Rattle.cml_index.specs.Posts as spec

@@ -1,4 +1,4 @@
-use Rattle.std.proofs.Common.{◌≡◌, ◌∷◌, [], refl, ℕ, true, false, ◌≤◌, ◌+◌, ◌*◌, ◌∙◌, length, nat_eq, not, map, ap, sym, subst, arith}
+use Rattle.std.proofs.Common.{◌≡◌, ◌∷◌, [], refl, ℕ, true, false, ◌≤◌, ◌+◌, ◌∙◌, length, map, ap, sym, subst, arith}
 use Rattle.std.specs.List.{filter}
 use Rattle.cml_value.specs.Group.{bases}
 use Rattle.cml_scan.specs.World.{PlainEntry}
@@ -14,7 +14,7 @@ use Rattle.cml_index.specs.declared.slot.Slot.TheVariants.{Side}
 use Rattle.cml_index.specs.Slots.{slot_in, lane_at, lane_of, slot_leaves, has_slot}
 use Rattle.cml_index.proofs.Walks.{no_leaves, with_none}
 use Rattle.cml_channel.specs.Pairings.{one_lane}
-use Rattle.cml_index.specs.Live.{may_meet, have_side}
+use Rattle.cml_index.specs.Live.{may_meet}
 use Rattle.cml_index.proofs.Kept.{no_sides, meet_more, with_longer}
 use Rattle.cml_index.specs.Crossing.{crosses}
 use Rattle.cml_index.proofs.Counted.{one_if}
@@ -24,7 +24,7 @@ use Rattle.cml_index.proofs.Alone.{lone_post, lone_scopes}
 use Rattle.cml_index.specs.Posts as spec
 use Rattle.cml_index.specs.Waits.{lit_wait}
 use Rattle.cml_index.proofs.Waits.{waits_lit}
-use Rattle.cml_index.proofs.Parted.{all_apart, lane_others, lane-ascends, came_lane, came_count, came_all, nacks_with, move_cost, filter_fewer}
+use Rattle.cml_index.proofs.Parted.{all_apart, lane_others, lane-ascends, came_lane, came_count, came_all, nacks_with, filter_fewer}
 use Rattle.cml_index.proofs.state.IndexState.enter_lone.Goals as goal
 
 pub overflow_add-self-2 : goal.overflow_add-self-2

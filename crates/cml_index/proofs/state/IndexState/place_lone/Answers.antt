@@ -1,4 +1,4 @@
-use Rattle.std.proofs.Common.{◌≡◌, ◌≢◌, ◌+◌, ◌∷◌, [], ◌∙◌, length, ap, sym, subst, arith}
+use Rattle.std.proofs.Common.{◌≢◌, ◌+◌, ◌∙◌, ap, sym, subst}
 use Rattle.std.specs.List.{All}
 use Rattle.cml_scan.specs.Table.{with_entry}
 use Rattle.cml_index.specs.Slots.{HaveDigits, late_at}

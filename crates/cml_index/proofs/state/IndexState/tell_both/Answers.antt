@@ -1,4 +1,4 @@
-use Rattle.std.proofs.Common.{true, false, cond, ap, ◌∙◌}
+use Rattle.std.proofs.Common.{true, cond, ap, ◌∙◌}
 use Rattle.cml_scan.specs.Table.{has_light}
 use Rattle.cml_scan.proofs.Ordered.{Every-weaker}
 use Rattle.cml_index.specs.declared.slot.Slot.TheVariants.{Waiters}
