@@ -1,5 +1,6 @@
 -- How lines are read one after another.
-use Rattle.std.proofs.Common.{◌≡◌, ℕ, ◌+◌, ◌-◌, ◌≤◌, ◌==◌, suc, Bool, true, false, cond, List, [], ◌∷◌, ◌++◌, length, take, drop, Option, None, Result, Ok, Err, refl, ap, sym, ◌∙◌, subst, arith, inl, inr}
+use Rattle.std.proofs.Common.{◌≡◌, ℕ, ◌+◌, ◌-◌, ◌≤◌, ◌==◌, suc, Bool, true, false, cond, List, [], ◌∷◌, ◌++◌, length, take, drop, Option, None, Result, Ok, Err}
+use Rattle.std.proofs.Common.{refl, ap, sym, ◌∙◌, subst, arith, inl, inr}
 use Rattle.std.specs.Prelude.{◌<◌, MatchBool, Vec}
 use Rattle.std.specs.declared.alloc.Global.{Global}
 use Rattle.std.proofs.lemmas.Bool.{le-ltb, lt-ltb}
@@ -58,7 +59,8 @@ SaysOn text front at left = (others : Result (List Property) PropertyFault) → 
 
 pub says_first : (text : List ℕ) (front : List Property) (left : List (List ℕ)) → front ≡ [] → left ≡ lines text → SaysOn text front 0 left
 says_first text front left none e = λ others says.
-    subst (λ (f : Result (List Property) PropertyFault). LinesSay 0 (lines text) f) (sym (ap (λ ps. with_front ps others) none ∙ front_none others)) (subst (λ (ls : List (List ℕ)). LinesSay 0 ls others) e says)
+    subst (λ (f : Result (List Property) PropertyFault). LinesSay 0 (lines text) f) (sym (ap (λ ps. with_front ps others) none ∙ front_none others))
+    (subst (λ (ls : List (List ℕ)). LinesSay 0 ls others) e says)
 
 pub says_next : (text : List ℕ) (front front' : List Property) (at : ℕ) (left : List (List ℕ)) (line : List ℕ) (behind : List (List ℕ)) (first : Option Property) →
     left ≡ line ∷ behind → front' ≡ front ++ option_to_list first → SaysOn text front at left → LineSays at line (Ok first) → SaysOn text front' (at + (length line + 1)) behind
