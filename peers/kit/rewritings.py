@@ -144,10 +144,23 @@ def eager_nacks(script: Script) -> Script:
     return beginning_with(script, set(called_by(script, "withnack")), lambda nack: ("set", nack, ("choose", nack, ("always", "unit"))))
 
 
+def nacks_that_may_not_happen(script: Script) -> Script:
+    """A nack may happen when its branch has lost, or never."""
+    return beginning_with(script, set(called_by(script, "withnack")),
+                          lambda nack: ("set", nack, ("guard", "this_or_never", nack))) + ((THIS_OR_NEVER,) if called_by(script, "withnack") else ())
+
+
+THIS_OR_NEVER = Function("this_or_never", ("nack",), (
+    ("let", "is_lost", ("sync", ("choose", ("always", "true"), ("always", "false")))),
+    ("if", "is_lost", ("do", ("return", "never")), ("do",)),
+    ("return", "nack")))
+
+
 def beginning_with(script: Script, names: set[str], statement: Callable[[str], Form]) -> Script:
     """These functions of withnacks with one more statement, about their nack, before all others."""
     return tuple(Function(of.name, of.parameters, (statement(of.parameters[-1]), *of.body)) if of.name in names else of for of in script)
 
 
 REWRITINGS: dict[str, Callable[[Script], Script]] = {
-    "early offers": early_offers, "silent where empty": silent_where_empty, "eager nacks": eager_nacks}
+    "early offers": early_offers, "silent where empty": silent_where_empty, "eager nacks": eager_nacks,
+    "nacks that may not happen": nacks_that_may_not_happen}

@@ -1,7 +1,7 @@
 """Smaller scripts: those that a script becomes if a part is left out."""
 from collections.abc import Callable, Iterator
 
-from kit.rewrite import everywhere, rewritten
+from kit.rewrite import everywhere
 from kit.script import Form, Function, Script, parts_of
 
 EVENTS = frozenset("always send recv swap iget mtake mget mswap mailrecv portrecv join choose wrap guard withnack".split())
