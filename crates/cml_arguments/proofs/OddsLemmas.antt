@@ -4,19 +4,24 @@ use Rattle.std.specs.Char.{is_ascii_digit}
 use Rattle.std.specs.List.{list_all}
 use Rattle.std.proofs.lemmas.List.{append_cancel_left, append_cancel_right}
 use Rattle.std.specs.Prelude.{IsSomeAnd}
-use Rattle.cml_arguments.specs.Words.{drawn_to, record_of, saved_end, saved_name, OverRecord, ReplacedOdds, SavesOver, ToldOdds}
+use Rattle.cml_arguments.specs.Words.{drawn_to, record_of, saved_end, saved_name, KindsOdds, OrElse, OverRecord, ReplacedOdds, SaveOdds, SavesOver, ToldOdds}
 use Rattle.cml_arguments.specs.declared.RunOptions.{RunOptions}
 
 -- nothing was said of the first of two ways in which options are at odds
-pub told_other : (P Q : List ℕ → Type 0) (told : Option (List ℕ)) → ToldOdds P None → ToldOdds Q told → ToldOdds (λ text. P text ⊎ Q text) told
-told_other P Q None none other = λ text odds. elim odds [ inl first ↦ none text first | inr second ↦ other text second ]
-told_other P Q (Some text) none other = inr other
+pub told_other : (P Q : List ℕ → Type 0) (told : Option (List ℕ)) → ToldOdds P None → ToldOdds Q told → ToldOdds (OrElse P Q) told
+told_other P Q None none other = λ text odds. elim odds [ inl first ↦ none text first | inr second ↦ other text second.1 ]
+told_other P Q (Some text) none other = inr (none, other)
 
 -- what is said where the picture would replace the record
 pub told_over : (options : RunOptions) (name : List ℕ) (told : Option (List ℕ)) → record_of options ≡ Some name
     → ToldOdds (ReplacedOdds (codes "--draw") (drawn_to options) name) told → ToldOdds (OverRecord options) told
 told_over options name told is said =
     subst (λ (o : Option (List ℕ)). ToldOdds (λ text. IsSomeAnd o (λ n. ReplacedOdds (codes "--draw") (drawn_to options) n text)) told) (sym is) said
+
+-- what is said where the file of a class would replace the script
+pub told_saved : (save : Option (List ℕ)) (start script : List ℕ) (told : Option (List ℕ)) → save ≡ Some start → ToldOdds (KindsOdds start script) told
+    → ToldOdds (SaveOdds save script) told
+told_saved save start script told is said = subst (λ (o : Option (List ℕ)). ToldOdds (SaveOdds o script) told) (sym is) said
 
 -- ---- the name of a file that is saved
 

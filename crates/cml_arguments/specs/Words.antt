@@ -1,8 +1,10 @@
 -- What the arguments of the command line ask for, as clap reads them.
-use Rattle.std.specs.Prelude.{◌≡◌, ◌≢◌, ◌<◌, ◌+◌, ◌^◌, ◌⊎◌, ◌&&◌, if◌then◌else◌, ℕ, Bool, true, false, not, Option, Some, None, IfSome, IsSomeAnd, List, [], ◌∷◌, ◌++◌, codes, find, is_some, map, slice_get, option_map, unwrap_or}
-use Rattle.std.specs.List.{list_all}
+use Rattle.std.specs.Prelude.{◌≡◌, ◌≢◌, ◌<◌, ◌+◌, ◌^◌, ◌⊎◌, ◌&&◌, ◌||◌, if◌then◌else◌, ℕ, Bool, true, false, not, Option, Some, None}
+use Rattle.std.specs.Prelude.{IfSome, IsSomeAnd, List, [], ◌∷◌, ◌++◌, codes, find, is_some, map, nat_lt, slice_get, option_map, unwrap_or}
+use Rattle.std.specs.List.{list_all, list_any}
 use Rattle.std.specs.Int.{IsInRange}
 use Rattle.std.specs.Option.{option_map_or}
+use Rattle.std.specs.Borrow.{Bor}
 use Rattle.std.specs.Char.{is_ascii_digit}
 use Rattle.std.specs.Str.{bytes_eq}
 use Rattle.std.specs.String.{string_bytes}
@@ -35,7 +37,7 @@ use Rattle.cml_arguments.specs.declared.StepOptions.{StepOptions}
 use Rattle.cml_arguments.specs.declared.TraceOptions.{TraceOptions}
 use Rattle.cml_arguments.specs.declared.VerifyOptions.{VerifyOptions}
 use Rattle.cml_arguments.specs.declared.Until.{Until}
-use Rattle.cml_arguments.specs.declared.Until.TheVariants.{Budget, Fault, Waits}
+use Rattle.cml_arguments.specs.declared.Until.TheVariants.{Bad, Budget, Deadlock, Fault, Waits}
 
 -- ---- the commands
 
@@ -95,7 +97,7 @@ order_rules = flag_rule (codes "turns") ∷ depth_rule (codes "priority") ∷ []
 
 -- the options by which a command is told what to make of many runs
 abbrev pub finding_rules : List Rule
-finding_rules = option_rule (codes "save") ∷ list_rule (codes "servers") ∷ option_rule (codes "until") ∷ []
+finding_rules = option_rule (codes "save") ∷ list_rule (codes "servers") ∷ list_rule (codes "until") ∷ []
 
 -- the argument follows this rule, and is its command's alone
 pub record FollowsRule (wanted : Rule) (arg : Arg) : Type 0 where
@@ -120,7 +122,8 @@ file_command name = command_of name (file_rule (codes "FILE") ∷ explain_rules)
 
 abbrev pub run_command : Shape
 run_command = command_of (codes "run")
-    (file_rule (codes "FILE") ∷ workers_rule (codes "workers") ∷ count_rule (codes "steps") ∷ any_rule (codes "seed") ∷ count_rule (codes "watch") ∷ option_rule (codes "record") ∷ option_rule (codes "draw") ∷ end_rules ++ explain_rules)
+    (file_rule (codes "FILE") ∷ workers_rule (codes "workers") ∷ count_rule (codes "steps") ∷ any_rule (codes "seed") ∷ count_rule (codes "watch")
+    ∷ option_rule (codes "record") ∷ option_rule (codes "draw") ∷ order_rules ++ (end_rules ++ explain_rules))
 
 abbrev pub replay_command : Shape
 replay_command = command_of (codes "replay") (file_rule (codes "FILE") ∷ file_rule (codes "SCHEDULE") ∷ count_rule (codes "watch") ∷ end_rules ++ explain_rules)
@@ -131,10 +134,13 @@ part_command name = command_of name (file_rule (codes "FILE") ∷ file_rule (cod
 
 abbrev pub explore_command : Shape
 explore_command = command_of (codes "explore")
-    (file_rule (codes "FILE") ∷ runs_rule (codes "runs") ∷ any_rule (codes "seed") ∷ count_rule (codes "steps") ∷ workers_rule (codes "workers") ∷ order_rules ++ finding_rules)
+    (file_rule (codes "FILE") ∷ runs_rule (codes "runs") ∷ any_rule (codes "seed") ∷ count_rule (codes "steps") ∷ workers_rule (codes "workers")
+    ∷ flag_rule (codes "picks") ∷ order_rules ++ finding_rules)
 
 abbrev pub verify_command : Shape
-verify_command = command_of (codes "verify") (file_rule (codes "FILE") ∷ states_rule (codes "states") ∷ option_rule (codes "save") ∷ list_rule (codes "servers") ∷ [])
+verify_command =
+    command_of (codes "verify")
+    (file_rule (codes "FILE") ∷ states_rule (codes "states") ∷ flag_rule (codes "outcomes") ∷ option_rule (codes "save") ∷ list_rule (codes "servers") ∷ [])
 
 abbrev pub shrink_command : Shape
 shrink_command = command_of (codes "shrink") (file_rule (codes "FILE") ∷ file_rule (codes "SCHEDULE") ∷ count_rule (codes "tries") ∷ [])
@@ -142,10 +148,10 @@ shrink_command = command_of (codes "shrink") (file_rule (codes "FILE") ∷ file_
 abbrev pub step_command : Shape
 step_command = command_of (codes "step") (file_rule (codes "FILE") ∷ option_rule (codes "record") ∷ [])
 
--- the program, with its commands, of which one must be named
+-- the program, with its commands, of which one must be named; it has a version
 abbrev pub commands : App
 commands = record {
-  top = record (new_app (codes "cml")).top { subcommand_required = true; is_leaf = false };
+  top = record (new_app (codes "cml")).top { subcommand_required = true; is_leaf = false; has_version = true };
   subs = trace_command
       ∷ file_command (codes "check")
       ∷ file_command (codes "fmt")
@@ -208,8 +214,10 @@ IsDepth = IsInRange 1 64
 abbrev pub until_named : Text → Option Until
 until_named word =
     if bytes_eq word (codes "waits") then Some Waits
+    else if bytes_eq word (codes "deadlock") then Some Deadlock
     else if bytes_eq word (codes "fault") then Some Fault
     else if bytes_eq word (codes "budget") then Some Budget
+    else if bytes_eq word (codes "bad") then Some Bad
     else None
 
 -- the options of `trace` are what was given
@@ -233,12 +241,14 @@ pub record IsRun (given : List Row) (options : RunOptions) : Type 0 where
   pub workers : options.workers ≡ unwrap_or (option_number (codes "workers") given) 1
   pub steps : options.steps ≡ unwrap_or (option_number (codes "steps") given) 1000000
   pub seed : options.seed ≡ option_number (codes "seed") given
+  pub turns : options.turns ≡ is_flagged (codes "turns") given
+  pub priority : options.priority ≡ option_number (codes "priority") given
   pub watch : options.watch ≡ option_number (codes "watch") given
   pub record_file : option_map (λ name. name.now) options.record ≡ first_of (codes "record") given
   pub draw_file : option_map (λ name. name.now) options.draw ≡ first_of (codes "draw") given
   pub end : IsEnd given options.end
   pub explain : options.explain ≡ explanation given
-  pub counts : IsWorkers options.workers × IsCount options.steps × IfSome options.watch IsCount
+  pub counts : IsWorkers options.workers × IsCount options.steps × IfSome options.watch IsCount × IfSome options.priority IsDepth
 
 -- and those of `replay`
 pub record IsReplay (given : List Row) (options : ReplayOptions) : Type 0 where
@@ -257,25 +267,26 @@ pub record IsPart (given : List Row) (options : PartOptions) : Type 0 where
   pub last : options.to ≡ option_number (codes "to") given
   pub counts : IsCount options.from × IfSome options.to IsCount
 
--- and those of `explore`; where no number of runs was, 100, where no seed was, 0, where no number of steps was, 1,000,000, and where no number
--- of workers was, one
+-- and those of `explore`; where no number of runs was, 100, where no seed was, 0, and where no number of steps was, 1,000,000
 pub record IsExplore (given : List Row) (options : ExploreOptions) : Type 0 where
   pub script : first_of (codes "FILE") given ≡ Some options.script.now
   pub runs : options.runs ≡ unwrap_or (option_number (codes "runs") given) 100
   pub seed : options.seed ≡ unwrap_or (option_number (codes "seed") given) 0
   pub steps : options.steps ≡ unwrap_or (option_number (codes "steps") given) 1000000
-  pub workers : options.workers ≡ unwrap_or (option_number (codes "workers") given) 1
+  pub workers : options.workers ≡ option_number (codes "workers") given
+  pub picks : options.picks ≡ is_flagged (codes "picks") given
   pub turns : options.turns ≡ is_flagged (codes "turns") given
   pub priority : options.priority ≡ option_number (codes "priority") given
   pub save : option_map (λ start. start.now) options.save ≡ first_of (codes "save") given
   pub servers : map (λ name. name.now) options.servers.items ≡ option_texts (codes "servers") given
-  pub until : option_map (λ word. word.now) options.until ≡ first_of (codes "until") given
-  pub counts : IsRuns options.runs × IsCount options.steps × IsWorkers options.workers × IfSome options.priority IsDepth
+  pub until : map (λ word. word.now) options.until.items ≡ option_texts (codes "until") given
+  pub counts : IsRuns options.runs × IsCount options.steps × IfSome options.workers IsWorkers × IfSome options.priority IsDepth
 
 -- and those of `verify`; where no number of states was, 20,000
 pub record IsVerify (given : List Row) (options : VerifyOptions) : Type 0 where
   pub script : first_of (codes "FILE") given ≡ Some options.script.now
   pub states : options.states ≡ unwrap_or (option_number (codes "states") given) 20000
+  pub outcomes : options.outcomes ≡ is_flagged (codes "outcomes") given
   pub save : option_map (λ start. start.now) options.save ≡ first_of (codes "save") given
   pub servers : map (λ name. name.now) options.servers.items ≡ option_texts (codes "servers") given
   pub counts : IsStates options.states
@@ -308,6 +319,14 @@ Names (name, given) (task_of.Step options) = (name ≡ codes "step") × IsSteppi
 
 -- ---- options at odds
 
+-- Options are at odds in one way, or, where they are not, in another. So the first of the two is told.
+abbrev pub OrElse : (List ℕ → Type 0) → (List ℕ → Type 0) → List ℕ → Type 0
+OrElse one other told = one told ⊎ (((text : List ℕ) → one text → ⊥) × other told)
+
+-- two options are both given that can't be
+abbrev pub Clash : Text → Bool → Text → Bool → List ℕ → Type 0
+Clash one given other also told = (given ≡ true) × (also ≡ true) × (told ≡ one ++ (codes " can't be used with " ++ (other ++ codes "\n")))
+
 -- what this option saves would replace the file of this name: both are given by the same text
 abbrev pub Replaces : Option Text → Text → Type 0
 Replaces saved name = saved ≡ Some name
@@ -336,19 +355,38 @@ drawn_to options = option_map (λ name. name.now) options.draw
 abbrev pub OverRecord : RunOptions → List ℕ → Type 0
 OverRecord options told = IsSomeAnd (record_of options) (λ name. ReplacedOdds (codes "--draw") (drawn_to options) name told)
 
+-- the order of the turns is said, by this option, and more workers than one are asked for, or reports
+abbrev pub is_ordered : RunOptions → Bool
+is_ordered options = options.turns || is_some options.priority
+
+abbrev pub order_word : Bool → Text
+order_word turns = if turns then codes "--turns" else codes "--priority"
+
+abbrev pub WatchOdds : RunOptions → List ℕ → Type 0
+WatchOdds options = Clash (order_word options.turns) (is_ordered options) (codes "--watch") (is_some options.watch)
+
+abbrev pub WorkersOdds : RunOptions → List ℕ → Type 0
+WorkersOdds options = OrElse (Clash (order_word options.turns) (is_ordered options) (codes "--workers") (nat_lt 1 options.workers)) (WatchOdds options)
+
+-- it is said in two ways
+abbrev pub TurnsOdds : RunOptions → List ℕ → Type 0
+TurnsOdds options = OrElse (Clash (codes "--turns") options.turns (codes "--priority") (is_some options.priority)) (WorkersOdds options)
+
+abbrev pub OverOdds : RunOptions → List ℕ → Type 0
+OverOdds options = OrElse (OverRecord options) (TurnsOdds options)
+
 abbrev pub DrawnOdds : RunOptions → List ℕ → Type 0
-DrawnOdds options told = ReplacedOdds (codes "--draw") (drawn_to options) options.file.now told ⊎ OverRecord options told
+DrawnOdds options = OrElse (ReplacedOdds (codes "--draw") (drawn_to options) options.file.now) (OverOdds options)
 
 abbrev pub RunOdds : RunOptions → List ℕ → Type 0
-RunOdds options told = ReplacedOdds (codes "--record") (record_of options) options.file.now told ⊎ DrawnOdds options told
+RunOdds options = OrElse (ReplacedOdds (codes "--record") (record_of options) options.file.now) (DrawnOdds options)
 
--- the word of `--until` means nothing
-abbrev pub IsUnknown : Option Text → Type 0
-IsUnknown until = IsSomeAnd until (λ word. until_named word ≡ None)
+-- a word of `--until` means nothing
+abbrev pub is_unknown : Text → Bool
+is_unknown word = not (is_some (until_named word))
 
--- the order of the turns is to be drawn, and to come about by priorities
-abbrev pub OrdersTwice : Bool → Option ℕ → Type 0
-OrdersTwice turns priority = (turns ≡ true) × (is_some priority ≡ true)
+abbrev pub UntilOdds : List (Bor Text) → List ℕ → Type 0
+UntilOdds until told = (list_any (λ word. is_unknown word.now) until ≡ true) × (told ≡ codes "--until takes waits, deadlock, fault, budget or bad\n")
 
 -- the last of so many runs, the first of which has this seed, would have one that is larger than the last seed, 2^64 - 1
 abbrev pub PassesTheLast : ℕ → ℕ → Type 0
@@ -365,14 +403,41 @@ saved_name start digits = start ++ saved_end digits
 abbrev pub SavesOver : Text → Text → Type 0
 SavesOver start name = (digits : List ℕ) × (list_all is_ascii_digit digits ≡ true) × (name ≡ saved_name start digits)
 
--- the word of `--until` means nothing, the order of the turns is asked for in two ways, there are fewer seeds than runs, or a file that is
--- saved would replace the script
+-- what the names of the files of bad or of good classes begin with
+abbrev pub start_of : Text → Bool → Text
+start_of start well = start ++ (if well then codes "-good" else codes "-bad")
+
+abbrev pub SavedOdds : Text → Text → List ℕ → Type 0
+SavedOdds start script told = SavesOver start script × (told ≡ would_replace (codes "--save") script)
+
+abbrev pub KindsOdds : Text → Text → List ℕ → Type 0
+KindsOdds start script = OrElse (SavedOdds (start_of start false) script) (SavedOdds (start_of start true) script)
+
+-- a word of `--until` means nothing; the order of the turns is said in two ways; there are fewer seeds than runs; or a file that is saved would
+-- replace the script
+abbrev pub SaveOdds : Option Text → Text → List ℕ → Type 0
+SaveOdds save script told = IsSomeAnd save (λ start. KindsOdds start script told)
+
+abbrev pub LastOdds : ℕ → ℕ → List ℕ → Type 0
+LastOdds seed runs told = PassesTheLast seed runs × (told ≡ codes "--runs goes past the last seed, 18446744073709551615\n")
+
+abbrev pub saved_to : ExploreOptions → Option Text
+saved_to options = option_map (λ start. start.now) options.save
+
+abbrev pub SeedsOdds : ExploreOptions → List ℕ → Type 0
+SeedsOdds options = OrElse (LastOdds options.seed options.runs) (SaveOdds (saved_to options) options.script.now)
+
+abbrev pub DepthOdds : ExploreOptions → List ℕ → Type 0
+DepthOdds options = OrElse (Clash (codes "--picks") options.picks (codes "--priority") (is_some options.priority)) (SeedsOdds options)
+
+abbrev pub PicksOdds : ExploreOptions → List ℕ → Type 0
+PicksOdds options = OrElse (Clash (codes "--picks") options.picks (codes "--turns") options.turns) (DepthOdds options)
+
+abbrev pub OrderOdds : ExploreOptions → List ℕ → Type 0
+OrderOdds options = OrElse (Clash (codes "--turns") options.turns (codes "--priority") (is_some options.priority)) (PicksOdds options)
+
 abbrev pub ExploreOdds : ExploreOptions → List ℕ → Type 0
-ExploreOdds options told =
-    (IsUnknown (option_map (λ word. word.now) options.until) × (told ≡ codes "--until takes waits, fault or budget\n"))
-    ⊎ (OrdersTwice options.turns options.priority × (told ≡ codes "--turns can't be used with --priority\n"))
-    ⊎ (PassesTheLast options.seed options.runs × (told ≡ codes "--runs goes past the last seed, 18446744073709551615\n"))
-    ⊎ (IsSomeAnd options.save (λ start. SavesOver start.now options.script.now) × (told ≡ would_replace (codes "--save") options.script.now))
+ExploreOdds options = OrElse (UntilOdds options.until.items) (OrderOdds options)
 
 -- a file that `verify` saves would replace the script
 abbrev pub VerifyOdds : VerifyOptions → List ℕ → Type 0

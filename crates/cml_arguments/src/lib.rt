@@ -105,6 +105,10 @@ pub struct RunOptions<'a> {
     pub steps: u64,
     /// What choices are drawn from; without it the first that can be taken is chosen.
     pub seed: Option<u64>,
+    /// Whether the order in which threads have their turns is drawn as well.
+    pub turns: bool,
+    /// The depth of the priorities by which they have them, from 1 to 64; without it they have none.
+    pub priority: Option<u64>,
     /// After how many items of the schedule each report comes, from 1 to 1,000,000,000; without it there is none.
     pub watch: Option<u64>,
     /// The file that gets the schedule of the run.
@@ -156,18 +160,20 @@ pub struct ExploreOptions<'a> {
     pub seed: u64,
     /// How many steps each run may take, from 1 to 1,000,000,000; where the arguments give no number, 1,000,000.
     pub steps: u64,
-    /// How many workers make the runs, from 1 to 64; where the arguments give no number, 1.
-    pub workers: usize,
-    /// Whether the order in which threads have their turns is drawn as well.
+    /// How many workers make the runs, from 1 to 64, where the arguments give a number.
+    pub workers: Option<u64>,
+    /// Whether in each run threads have their turns in order, and rows alone are picked.
+    pub picks: bool,
+    /// Whether in each the order in which threads have their turns is drawn as well.
     pub turns: bool,
-    /// The depth of the priorities by which they have them, from 1 to 64; without it they have none.
+    /// The depth of the priorities by which they have them in each, from 1 to 64; without it they have none.
     pub priority: Option<u64>,
     /// What the name of each file begins with that gets a schedule; without it none is saved.
     pub save: Option<&'a str>,
     /// The functions of servers: threads that began with one of them may wait.
     pub servers: Vec<&'a str>,
-    /// The word that says at which run to stop; without it all are made.
-    pub until: Option<&'a str>,
+    /// The words that say at which runs to stop; without one all are made.
+    pub until: Vec<&'a str>,
 }
 
 /// At which run to stop.
@@ -175,10 +181,14 @@ pub struct ExploreOptions<'a> {
 pub enum Until {
     /// The first at whose end a thread waits that is no server.
     Waits,
+    /// The first at whose end, moreover, nothing is left to do.
+    Deadlock,
     /// The first in which a thread ends at a fault.
     Fault,
     /// The first that ends because its steps are used up.
     Budget,
+    /// The first that does not end well.
+    Bad,
 }
 
 impl Until {
@@ -188,8 +198,10 @@ impl Until {
     {
         match word {
             "waits" => Some(Until::Waits),
+            "deadlock" => Some(Until::Deadlock),
             "fault" => Some(Until::Fault),
             "budget" => Some(Until::Budget),
+            "bad" => Some(Until::Bad),
             _ => None,
         }
     }
@@ -202,6 +214,8 @@ pub struct VerifyOptions<'a> {
     pub script: &'a str,
     /// How many states may be kept, from 1 to 100,000,000; where the arguments give no number, 20,000.
     pub states: u64,
+    /// Whether what every schedule gives is told, in a form that a program reads, in place of how they end.
+    pub outcomes: bool,
     /// What the name of each file begins with that gets a schedule; without it none is saved.
     pub save: Option<&'a str>,
     /// The functions of servers: threads that began with one of them may wait.

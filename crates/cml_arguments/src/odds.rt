@@ -1,8 +1,8 @@
 //! What is said of the options of a command that can't be used together.
 
-ghost use Rattle.std.specs.{Prelude.{◌≡◌, ◌↔◌, ◌<◌, ◌-◌, false, is_some, option_map, IfOk, IsTrue, List, MatchOption, Some, ℕ}, Char.{is_ascii_digit}};
-ghost use Rattle.std.specs.{List.{list_all}, String.{string_bytes}};
-ghost use Rattle.cml_arguments.specs.Words.{saved_end, saved_name, AreOdds, DrawnOdds, ExplainsLive, ExploreOdds, IsUnknown, OrdersTwice, OverRecord, PassesTheLast, ReplacedOdds, Replaces, RunOdds, SavesOver, StepOdds, ToldOdds, TraceOdds, VerifyOdds};
+ghost use Rattle.std.specs.{Prelude.{◌≡◌, ◌↔◌, ◌<◌, ◌-◌, false, true, is_some, option_map, IfOk, IsTrue, List, MatchOption, Some, ℕ}, Char.{is_ascii_digit}};
+ghost use Rattle.std.specs.{List.{list_all, list_any}, String.{string_bytes}};
+ghost use Rattle.cml_arguments.specs.Words.{saved_end, saved_name, start_of, AreOdds, Clash, DepthOdds, DrawnOdds, ExplainsLive, ExploreOdds, KindsOdds, LastOdds, OrderOdds, OverOdds, OverRecord, PassesTheLast, PicksOdds, ReplacedOdds, Replaces, RunOdds, SaveOdds, SavedOdds, SavesOver, SeedsOdds, StepOdds, ToldOdds, TraceOdds, TurnsOdds, UntilOdds, VerifyOdds, WatchOdds, WorkersOdds};
 ghost use Rattle.cml_arguments.specs.Words as spec;
 
 use crate::{
@@ -54,11 +54,21 @@ fn drawn_odds(alloc: Global, options: &RunOptions<'_>) -> Result<Option<String>,
 {
     match told_replaced(alloc, "--draw", options.draw, options.file)? {
         Some(told) => Ok(Some(told)),
-        None => over_record(alloc, options),
+        None => over_odds(alloc, options),
     }
 }
 
-// And of its picture, where the record would be replaced.
+// And of the record, which its picture would replace.
+fn over_odds(alloc: Global, options: &RunOptions<'_>) -> Result<Option<String>, AllocError>
+    ensures { IfOk result (λ told. ToldOdds (OverOdds options.now) (option_map (λ text. string_bytes text) told)) }
+{
+    match over_record(alloc, options)? {
+        Some(told) => Ok(Some(told)),
+        None => turns_odds(alloc, options),
+    }
+}
+
+// What is said where the picture would replace the record.
 fn over_record(alloc: Global, options: &RunOptions<'_>) -> Result<Option<String>, AllocError>
     ensures { IfOk result (λ told. ToldOdds (OverRecord options.now) (option_map (λ text. string_bytes text) told)) }
 {
@@ -68,26 +78,189 @@ fn over_record(alloc: Global, options: &RunOptions<'_>) -> Result<Option<String>
     }
 }
 
+// And of the order of its turns.
+fn turns_odds(alloc: Global, options: &RunOptions<'_>) -> Result<Option<String>, AllocError>
+    ensures { IfOk result (λ told. ToldOdds (TurnsOdds options.now) (option_map (λ text. string_bytes text) told)) }
+{
+    let priority = options.priority.is_some();
+    match clash(alloc, "--turns", options.turns, "--priority", priority)? {
+        Some(told) => Ok(Some(told)),
+        None => workers_odds(alloc, options),
+    }
+}
+
+// And of its workers, where the order of its turns is said.
+fn workers_odds(alloc: Global, options: &RunOptions<'_>) -> Result<Option<String>, AllocError>
+    ensures { IfOk result (λ told. ToldOdds (WorkersOdds options.now) (option_map (λ text. string_bytes text) told)) }
+{
+    let order = order_word(options.turns);
+    let many = options.workers > 1;
+    match clash(alloc, order, is_ordered(options), "--workers", many)? {
+        Some(told) => Ok(Some(told)),
+        None => watch_odds(alloc, options),
+    }
+}
+
+// And of its reports, where it is said.
+fn watch_odds(alloc: Global, options: &RunOptions<'_>) -> Result<Option<String>, AllocError>
+    ensures { IfOk result (λ told. ToldOdds (WatchOdds options.now) (option_map (λ text. string_bytes text) told)) }
+{
+    let order = order_word(options.turns);
+    let watch = options.watch.is_some();
+    clash(alloc, order, is_ordered(options), "--watch", watch)
+}
+
+// Whether the order of the turns of a run is said.
+fn is_ordered(options: &RunOptions<'_>) -> bool
+    ensures { result ≡ spec.is_ordered options.now }
+{
+    options.turns || options.priority.is_some()
+}
+
+// The option that says it.
+fn order_word(turns: bool) -> &'static str
+    ensures { result.now ≡ spec.order_word turns }
+{
+    if turns { "--turns" } else { "--priority" }
+}
+
 // And of those of `explore`.
 fn explore_odds(alloc: Global, options: &ExploreOptions<'_>) -> Result<Option<String>, AllocError>
     ensures { IfOk result (λ told. ToldOdds (ExploreOdds options.now) (option_map (λ text. string_bytes text) told)) }
 {
-    if is_unknown(options.until) {
-        return Ok(Some(format!(in alloc; "--until takes waits, fault or budget\n")?));
+    match until_odds(alloc, options.until.as_slice())? {
+        Some(told) => Ok(Some(told)),
+        None => order_odds(alloc, options),
     }
-    if orders_twice(options.turns, options.priority) {
-        return Ok(Some(format!(in alloc; "--turns can't be used with --priority\n")?));
+}
+
+// And of the order of the turns.
+fn order_odds(alloc: Global, options: &ExploreOptions<'_>) -> Result<Option<String>, AllocError>
+    ensures { IfOk result (λ told. ToldOdds (OrderOdds options.now) (option_map (λ text. string_bytes text) told)) }
+{
+    let priority = options.priority.is_some();
+    match clash(alloc, "--turns", options.turns, "--priority", priority)? {
+        Some(told) => Ok(Some(told)),
+        None => picks_odds(alloc, options),
     }
-    if passes_the_last(options.seed, options.runs) {
-        return Ok(Some(format!(in alloc;
-            "--runs goes past the last seed, 18446744073709551615\n"
-        )?));
+}
+
+// And where it is to be as it is without the option that draws it.
+fn picks_odds(alloc: Global, options: &ExploreOptions<'_>) -> Result<Option<String>, AllocError>
+    ensures { IfOk result (λ told. ToldOdds (PicksOdds options.now) (option_map (λ text. string_bytes text) told)) }
+{
+    match clash(alloc, "--picks", options.picks, "--turns", options.turns)? {
+        Some(told) => Ok(Some(told)),
+        None => depth_odds(alloc, options),
     }
-    match options.save {
-        Some(start) if saves_over(start, options.script) => {
-            Ok(Some(would_replace(alloc, "--save", options.script)?))
-        }
-        _ => Ok(None),
+}
+
+// And as it is without priorities.
+fn depth_odds(alloc: Global, options: &ExploreOptions<'_>) -> Result<Option<String>, AllocError>
+    ensures { IfOk result (λ told. ToldOdds (DepthOdds options.now) (option_map (λ text. string_bytes text) told)) }
+{
+    let priority = options.priority.is_some();
+    match clash(alloc, "--picks", options.picks, "--priority", priority)? {
+        Some(told) => Ok(Some(told)),
+        None => seeds_odds(alloc, options),
+    }
+}
+
+// And of the seeds.
+fn seeds_odds(alloc: Global, options: &ExploreOptions<'_>) -> Result<Option<String>, AllocError>
+    ensures { IfOk result (λ told. ToldOdds (SeedsOdds options.now) (option_map (λ text. string_bytes text) told)) }
+{
+    match last_odds(alloc, options.seed, options.runs)? {
+        Some(told) => Ok(Some(told)),
+        None => save_odds(alloc, options.save, options.script),
+    }
+}
+
+// What is said where a word of `--until` means nothing.
+fn until_odds(alloc: Global, until: &[&str]) -> Result<Option<String>, AllocError>
+    ensures { IfOk result (λ told. ToldOdds (UntilOdds until.now) (option_map (λ text. string_bytes text) told)) }
+{
+    if some_unknown(until) {
+        let told = format!(in alloc; "--until takes waits, deadlock, fault, budget or bad\n")?;
+        Ok(Some(told))
+    } else {
+        Ok(None)
+    }
+}
+
+// What is said where there are fewer seeds from this one on than runs.
+fn last_odds(alloc: Global, seed: u64, runs: u64) -> Result<Option<String>, AllocError>
+    ensures { IfOk result (λ told. ToldOdds (LastOdds seed runs) (option_map (λ text. string_bytes text) told)) }
+{
+    if passes_the_last(seed, runs) {
+        let told = format!(in alloc; "--runs goes past the last seed, 18446744073709551615\n")?;
+        Ok(Some(told))
+    } else {
+        Ok(None)
+    }
+}
+
+// What is said where the file of a class would replace the script.
+fn save_odds(alloc: Global, save: Option<&str>, script: &str) -> Result<Option<String>, AllocError>
+    ensures { IfOk result (λ told. ToldOdds (SaveOdds (option_map (λ start. start.now) save.entry) script.now) (option_map (λ text. string_bytes text) told)) }
+{
+    match save {
+        Some(start) => kinds_odds(alloc, start, script),
+        None => Ok(None),
+    }
+}
+
+// The same, where the names begin so.
+fn kinds_odds(alloc: Global, start: &str, script: &str) -> Result<Option<String>, AllocError>
+    ensures { IfOk result (λ told. ToldOdds (KindsOdds start.now script.now) (option_map (λ text. string_bytes text) told)) }
+{
+    match bad_odds(alloc, start, script)? {
+        Some(told) => Ok(Some(told)),
+        None => good_odds(alloc, start, script),
+    }
+}
+
+// The same of bad classes alone.
+fn bad_odds(alloc: Global, start: &str, script: &str) -> Result<Option<String>, AllocError>
+    ensures { IfOk result (λ told. ToldOdds (SavedOdds (start_of start.now false) script.now) (option_map (λ text. string_bytes text) told)) }
+{
+    let bad = format!(in alloc; "{start}-bad")?;
+    saved_odds(alloc, bad.as_str(), script)
+}
+
+// And of good classes alone.
+fn good_odds(alloc: Global, start: &str, script: &str) -> Result<Option<String>, AllocError>
+    ensures { IfOk result (λ told. ToldOdds (SavedOdds (start_of start.now true) script.now) (option_map (λ text. string_bytes text) told)) }
+{
+    let good = format!(in alloc; "{start}-good")?;
+    saved_odds(alloc, good.as_str(), script)
+}
+
+// The same of files whose names begin so.
+fn saved_odds(alloc: Global, start: &str, script: &str) -> Result<Option<String>, AllocError>
+    ensures { IfOk result (λ told. ToldOdds (SavedOdds start.now script.now) (option_map (λ text. string_bytes text) told)) }
+{
+    if saves_over(start, script) {
+        Ok(Some(would_replace(alloc, "--save", script)?))
+    } else {
+        Ok(None)
+    }
+}
+
+// What is said where two options are both given that can't be.
+fn clash(
+    alloc: Global,
+    one: &str,
+    given: bool,
+    other: &str,
+    also: bool,
+) -> Result<Option<String>, AllocError>
+    ensures { IfOk result (λ told. ToldOdds (Clash one.now given other.now also) (option_map (λ text. string_bytes text) told)) }
+{
+    if given && also {
+        Ok(Some(format!(in alloc; "{one} can't be used with {other}\n")?))
+    } else {
+        Ok(None)
     }
 }
 
@@ -143,21 +316,18 @@ fn would_replace(alloc: Global, option: &str, name: &str) -> Result<String, Allo
     format!(in alloc; "{option} would replace {name}\n")
 }
 
-// Whether the word of `--until` is given, and means nothing.
-fn is_unknown(until: Option<&str>) -> bool
-    ensures { IsTrue result ↔ IsUnknown (option_map (λ word. word.now) until.entry) }
+// Whether one of these words means nothing.
+fn some_unknown(until: &[&str]) -> bool
+    ensures { result ≡ list_any (λ word. spec.is_unknown word.now) until.now }
 {
-    match until {
-        Some(word) => Until::named(word).is_none(),
-        None => false,
-    }
+    until.iter().any(|word| is_unknown(word))
 }
 
-// Whether the order of the turns is to come about in two ways.
-fn orders_twice(turns: bool, priority: Option<u64>) -> bool
-    ensures { IsTrue result ↔ OrdersTwice turns priority }
+// Whether this word means nothing.
+fn is_unknown(word: &str) -> bool
+    ensures { result ≡ spec.is_unknown word.now }
 {
-    turns && priority.is_some()
+    Until::named(word).is_none()
 }
 
 // Whether there are fewer seeds from this one on than runs.

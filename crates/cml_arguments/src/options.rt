@@ -86,6 +86,8 @@ fn run_options<'a>(alloc: Global, matches: &ArgMatches<'a>) -> Given<RunOptions<
         workers: number(matches, "workers").unwrap_or(1) as usize,
         steps: number(matches, "steps").unwrap_or(DEFAULT_STEPS),
         seed: number(matches, "seed"),
+        turns: flag(matches, "turns"),
+        priority: number(matches, "priority"),
         watch: number(matches, "watch"),
         record: matches.get_str("record"),
         draw: matches.get_str("draw"),
@@ -128,17 +130,19 @@ fn explore_options<'a>(alloc: Global, matches: &ArgMatches<'a>) -> Given<Explore
     ensures { IfOk result (IsExplore (rows_of (found_of matches.now))) }
 {
     let servers = texts(alloc, matches, "servers")?;
+    let until = texts(alloc, matches, "until")?;
     Ok(ExploreOptions {
         script: given(matches, "FILE"),
         runs: number(matches, "runs").unwrap_or(DEFAULT_RUNS),
         seed: number(matches, "seed").unwrap_or(0),
         steps: number(matches, "steps").unwrap_or(DEFAULT_STEPS),
-        workers: number(matches, "workers").unwrap_or(1) as usize,
+        workers: number(matches, "workers"),
+        picks: flag(matches, "picks"),
         turns: flag(matches, "turns"),
         priority: number(matches, "priority"),
         save: matches.get_str("save"),
         servers,
-        until: matches.get_str("until"),
+        until,
     })
 }
 
@@ -151,6 +155,7 @@ fn verify_options<'a>(alloc: Global, matches: &ArgMatches<'a>) -> Given<VerifyOp
     Ok(VerifyOptions {
         script: given(matches, "FILE"),
         states: number(matches, "states").unwrap_or(DEFAULT_STATES),
+        outcomes: flag(matches, "outcomes"),
         save: matches.get_str("save"),
         servers,
     })

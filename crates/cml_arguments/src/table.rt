@@ -10,6 +10,9 @@ use std::alloc::{AllocError, Global};
 // A command, where there was memory to make it.
 type Made<'a> = Result<Command<'a>, AllocError>;
 
+// The day of the newest entry of CHANGELOG.md.
+const VERSION: &str = "2026-11-30";
+
 // The most steps or items that an option counts.
 const MOST: i64 = 1_000_000_000;
 
@@ -34,6 +37,7 @@ pub fn command<'a>(alloc: Global) -> Result<Command<'a>, AllocError>
 {
     let program = Command::new(alloc, "cml")
         .about("Events of Concurrent ML: answers traces of commands, and checks and runs scripts")
+        .version(VERSION)
         .subcommand_required(true);
     let program = with_command(Ok(program), trace(alloc));
     let program = with_command(program, file_alone(alloc, "check", "Checks a script"));
@@ -99,6 +103,7 @@ fn run<'a>(alloc: Global) -> Made<'a>
     let command = with_arg(command, watch(alloc));
     let command = with_arg(command, record(alloc));
     let command = with_arg(command, draw);
+    let command = ordering(alloc, command);
     explaining(alloc, ending(alloc, command))
 }
 
@@ -164,12 +169,18 @@ fn explore<'a>(alloc: Global) -> Made<'a>
     let steps = count(alloc, "steps", "B").help(
         "How many steps each may take, 1 to 1000000000 [default: 1000000]",
     );
-    let workers = workers(alloc).help("How many workers make the runs, 1 to 64 [default: 1]");
+    let workers = workers(alloc).help(
+        "How many workers make the runs, 1 to 64 [default: one for each processor]",
+    );
+    let picks = flag_of(alloc, "picks").help(
+        "Gives the turns in order, and picks what else happens [default: all orders go round]",
+    );
     let about = "Runs a script many times, and says how the runs end";
     let command = with_arg(on_file(alloc, "explore", about), runs);
     let command = with_arg(command, seed);
     let command = with_arg(command, steps);
     let command = with_arg(command, workers);
+    let command = with_arg(command, picks);
     finding(alloc, ordering(alloc, command))
 }
 
@@ -189,10 +200,10 @@ fn finding<'a>(alloc: Global, command: Made<'a>) -> Made<'a>
     ensures { (shape : Shape) → IfOk command.entry (IsShapedAs shape) → IfOk result (IsShapedAs (with_finding shape)) }
 {
     let save = option(alloc, "save", "PREFIX").help(
-        "Saves the shortest schedule of each kind of end, as PREFIX-1.schedule and so on",
+        "Saves the shortest schedule of each kind of end, as PREFIX-bad-1.schedule, PREFIX-good-1.schedule and so on",
     );
-    let until = option(alloc, "until", "WORD").help(
-        "Stops at the first run of this kind: waits, fault or budget",
+    let until = list(alloc, "until", "WORD").help(
+        "Stops at the first run of this kind: waits, deadlock, fault, budget or bad; may be given again",
     );
     with_arg(with_arg(with_arg(command, save), servers(alloc)), until)
 }
@@ -204,9 +215,13 @@ fn verify<'a>(alloc: Global) -> Made<'a>
     let about = "Examines every schedule of a script, and says how they end";
     let states = states(alloc).help("How many states it may keep, 1 to 100000000 [default: 20000]");
     let save = option(alloc, "save", "PREFIX").help(
-        "Saves the shortest schedule of each kind of end, as PREFIX-1.schedule and so on",
+        "Saves the shortest schedule of each kind of end or outcome, as PREFIX-1.schedule and so on",
+    );
+    let outcomes = flag_of(alloc, "outcomes").help(
+        "Writes each outcome once, with what is printed and how each thread ends, as a line of JSON",
     );
     let command = with_arg(on_file(alloc, "verify", about), states);
+    let command = with_arg(command, outcomes);
     with_arg(with_arg(command, save), servers(alloc))
 }
 
@@ -300,11 +315,18 @@ fn count<'a>(alloc: Global, name: &'a str, value: &'a str) -> Arg<'a>
     option(alloc, name, value).value_parser(value_parser!(u64).range(1..=MOST))
 }
 
+// An option that may be given again, each time with a value.
+fn list<'a>(alloc: Global, name: &'a str, value: &'a str) -> Arg<'a>
+    ensures { FollowsRule (list_rule name.now) result }
+{
+    option(alloc, name, value).action(ArgAction::Append)
+}
+
 // The option that names functions of servers.
 fn servers<'a>(alloc: Global) -> Arg<'a>
     ensures { FollowsRule (list_rule (codes "servers")) result }
 {
-    option(alloc, "servers", "F").action(ArgAction::Append).help(
+    list(alloc, "servers", "F").help(
         "Lets threads that began with function F wait; may be given again",
     )
 }

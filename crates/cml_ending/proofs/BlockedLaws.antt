@@ -45,7 +45,8 @@ only_leaf b c zero e = cc
 only_leaf b c (suc leaf) e = absurd (let h : None ≡ Some c = e in cc)
 
 -- what it waits for is that base event
-waited_is : (w : PlainWorld) (taker : ℕ → Option ℕ) (t u : ℕ) (tid : Tid) (leaf : ℕ) (b : PlainBase) (alone : WaitsAlone w taker (slice_get w.threads t) u) → tid.0 ≡ t → WaitsFor w tid leaf b → alone.base ≡ b
+waited_is : (w : PlainWorld) (taker : ℕ → Option ℕ) (t u : ℕ) (tid : Tid) (leaf : ℕ) (b : PlainBase) (alone : WaitsAlone w taker (slice_get w.threads t) u) → tid.0 ≡ t
+    → WaitsFor w tid leaf b → alone.base ≡ b
 waited_is w taker t u tid leaf b alone same waits =
     only_leaf alone.base b leaf
     (sym (ap (λ bs. slice_get bs leaf) alone.alone)

@@ -1,5 +1,6 @@
 -- What is told as a ring is one.
-use Rattle.std.proofs.Common.{◌≡◌, ◌≢◌, ℕ, zero, suc, ◌+◌, ◌-◌, ◌<◌, Bool, true, false, List, [], ◌∷◌, ◌++◌, length, drop, get_or, Option, Some, None, refl, sym, ap, subst, ◌∙◌, arith, length-drop, eqb-true}
+use Rattle.std.proofs.Common.{◌≡◌, ◌≢◌, ℕ, zero, suc, ◌+◌, ◌-◌, ◌<◌, Bool, true, false, List, [], ◌∷◌, ◌++◌}
+use Rattle.std.proofs.Common.{length, drop, get_or, Option, Some, None, refl, sym, ap, subst, ◌∙◌, arith, length-drop, eqb-true}
 use Rattle.std.specs.Prelude.{◌==◌, if◌then◌else◌, option_map, AllPairs}
 use Rattle.std.specs.Option.{option_or}
 use Rattle.std.proofs.lemmas.Bool.{eqb-false}
@@ -98,11 +99,13 @@ ring_by nexts t ring way (Some u) at e is =
       each_waits = subst (EachWaits nexts) (sym whole) (at, each_on nexts t (u ∷ goes.0) goes.2);
     }
 
-ring_if : (nexts : List (Option ℕ)) (t : ℕ) (ring : List ℕ) (way : Option (List ℕ)) → way_to nexts t (length nexts) (next_of nexts t) ≡ way → option_map (λ w. t ∷ w) way ≡ Some ring → IsRing nexts ring
+ring_if : (nexts : List (Option ℕ)) (t : ℕ) (ring : List ℕ) (way : Option (List ℕ)) → way_to nexts t (length nexts) (next_of nexts t) ≡ way → option_map (λ w. t ∷ w) way ≡ Some ring
+    → IsRing nexts ring
 ring_if nexts t ring None is e = absurd (let h : None ≡ Some ring = e in cc)
 ring_if nexts t ring (Some way) is e = let same : t ∷ way ≡ ring = cc in ring_by nexts t ring way (next_of nexts t) refl is (sym same)
 
-first_is : (nexts : List (Option ℕ)) (t : ℕ) (ring : List ℕ) (here rest : Option (List ℕ)) → (here ≡ Some ring → IsRing nexts ring) → (rest ≡ Some ring → IsRing nexts ring) → option_or here rest ≡ Some ring → IsRing nexts ring
+first_is : (nexts : List (Option ℕ)) (t : ℕ) (ring : List ℕ) (here rest : Option (List ℕ)) → (here ≡ Some ring → IsRing nexts ring) → (rest ≡ Some ring → IsRing nexts ring)
+    → option_or here rest ≡ Some ring → IsRing nexts ring
 first_is nexts t ring None rest f g e = g e
 first_is nexts t ring (Some x) rest f g e = f e
 

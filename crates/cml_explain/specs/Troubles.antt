@@ -14,7 +14,8 @@ use Rattle.cml_explain.specs.declared.keyword.Role.{Role}
 use Rattle.cml_explain.specs.declared.keyword.Role.TheVariants as role
 use Rattle.cml_explain.specs.declared.trouble.Later.TheVariants as later
 use Rattle.cml_explain.specs.declared.trouble.Trouble.{Trouble}
-use Rattle.cml_explain.specs.declared.trouble.Trouble.TheVariants.{Wanted, Hollow, Unknown, Reserved, Twice, Outside, Nested, Loose, Bare, Acts, ActsInSet, Commands, Unused, Lacks, Exceeds, Undeclared, NoFunction, Again, Given, MainTakes, ManyFunctions, ManyStatements}
+use Rattle.cml_explain.specs.declared.trouble.Trouble.TheVariants.{Wanted, Hollow, Unknown, Reserved, Twice, Outside, Nested, Loose, Bare, Acts, ActsInSet}
+use Rattle.cml_explain.specs.declared.trouble.Trouble.TheVariants.{Commands, Unused, Lacks, Exceeds, Undeclared, NoFunction, Again, Given, MainTakes, ManyFunctions, ManyStatements}
 use Rattle.cml_explain.specs.declared.hint.HintKind.{HintKind}
 use Rattle.cml_explain.specs.declared.hint.HintKind.TheVariants as hint
 use Rattle.cml_explain.specs.Keywords.{keyword_entry}

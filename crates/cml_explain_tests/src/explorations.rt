@@ -6,7 +6,7 @@ ghost use Rattle.cml_hub.specs.Kept.{IsBudget};
 
 use crate::making::{MEMORY, forms, program};
 use cml_check::Prog;
-use cml_explore::{Asked, Explored, Order, explain_runs, explore};
+use cml_explore::{Asked, Explored, Order, Orders, explain_runs, explore};
 use std::alloc::{AllocError, Global};
 use std::process::Abort;
 use std::rt::HostRuntime;
@@ -30,9 +30,9 @@ fn asked(first: u64, runs: u64, order: Order) -> Asked<'static>
         budget: 100,
         first,
         runs,
-        order,
+        orders: Orders::Named(order),
         servers: &[],
-        until: None,
+        until: &[],
     }
 }
 
@@ -66,7 +66,8 @@ fn tells(rt: &(impl Abort + AllocGlobal), script: &str, asked: Asked<'_>, is_wel
 #[test]
 fn tells_of_no_run(rt: HostRuntime) {
     let none = asked(0, 0, Order::Queue);
-    let said = "0 runs of a.cml, seed 0\n";
+    let said =
+        "0 runs of a.cml, seed 0, by picks\ngood: 0 runs by picks; not all schedules (verify looks at all)\n";
     tells(&rt, "(fn main ()\n  (print 1))", none, true, said);
 }
 
@@ -75,7 +76,7 @@ fn tells_of_no_run(rt: HostRuntime) {
 fn tells_of_priorities_of_no_depth(rt: HostRuntime) {
     let ten = asked(0, 10, Order::Priority(0));
     let said =
-        "10 runs of a.cml, seeds 0 to 9\n5  quiet, none waits, 1 fault   1 output    first: seed 0, 6 items\n       thread 0 main at 6:3 ends at a fault: M-variable 0 is full: it can be put only where it is empty\n5  quiet, none waits            1 output    first: seed 3, 7 items\n";
+        "10 runs of a.cml, seeds 0 to 9, by priorities of depth 0\nbad   5  quiet, none waits, 1 fault   1 output    first: --seed 0 --priority 0, 6 items\n       thread 0 main at 6:3 ends at a fault: M-variable 0 is full: it can be put only where it is empty\ngood  5  quiet, none waits            1 output    first: --seed 3 --priority 0, 7 items\nbad: 5 of 10 runs\n";
     tells(&rt, PUT, ten, false, said);
 }
 

@@ -33,7 +33,7 @@ none_gathered p servers asked made so_far none =
     record { ends = []; each = tt; gathered_so = so_far.gathered_so ∙ ap (gathered asked.first) empty }
 
 -- a run was added, which a hub has made by its schedule
-pub ended_by : {E : Type 0} (r : Result Bool E) (b : Bool) (p : List (PlainItem ℕ)) (servers : List ℕ) (until : Option Until) (items : List Item) (number : ℕ) (h : Kept)
+pub ended_by : {E : Type 0} (r : Result Bool E) (b : Bool) (p : List (PlainItem ℕ)) (servers : List ℕ) (until : List Until) (items : List Item) (number : ℕ) (h : Kept)
     (old new : PlainExplored) → r ≡ Ok b → HasGoneThrough p items h
     → IfOk r (λ s. (e : PlainEnded) × IsEndOf servers h e × (new ≡ with_ended number e old) × (s ≡ stops until e))
     → (e : PlainEnded) × EndsSoAfter p servers items e × (new ≡ with_ended number e old)

@@ -1,6 +1,6 @@
 -- One run more.
 use Rattle.std.proofs.Common.{◌≡◌, inl, inr, ℕ, suc, ◌+◌, ◌<◌, ◌≤◌, Bool, true, false, if◌then◌else◌, ◌&&◌, ◌||◌, List, [], ◌∷◌, ◌++◌, map, length, refl, sym, ap, subst, ◌∙◌, arith}
-use Rattle.std.specs.Prelude.{◌==◌, Option, Result, Ok, Err, IfOk}
+use Rattle.std.specs.Prelude.{◌==◌, Result, Ok, Err, IfOk}
 use Rattle.std.proofs.lemmas.Bool.Decides.{nat_tests}
 use Rattle.std.specs.List.{All, list_any, list_all}
 use Rattle.std.proofs.lemmas.List.{length_push}
@@ -16,6 +16,8 @@ use Rattle.cml_fault.specs.Details.{alike}
 use Rattle.cml_explore.specs.Classes.{Finish, PlainClass, grown, classed, classed_all}
 use Rattle.cml_explore.specs.declared.explored.Until.{Until}
 use Rattle.cml_seed.specs.declared.order.Order.{Order}
+use Rattle.cml_explore.specs.declared.orders.Orders.{Orders}
+use Rattle.cml_explore.specs.Orders.{seed_order}
 use Rattle.cml_seed.specs.SeedRuns.{IsSeedRun}
 use Rattle.cml_explore.specs.Finishes.{PlainEnded, is_well, stops, IsEndOf, EndsSoBy, EachEnds, finish_of}
 use Rattle.cml_explore.specs.Explored.{PlainExplored, gathered, nothing_made, with_ended, IsExplored, SoFar, HasMade}
@@ -27,14 +29,14 @@ pub record MadeSoFar (p : List (PlainItem ℕ)) (asked : Asked) (made : PlainExp
   pub few : made.runs ≤ asked.runs
 
 -- one run more, by the seed that follows
-ends_more : (p : List (PlainItem ℕ)) (budget : ℕ) (order : Order) (servers : List ℕ) (seed : ℕ) (es : List PlainEnded) (n : ℕ) (e : PlainEnded) → n ≡ seed + length es
-    → EachEnds p budget order servers seed es → EndsSoBy p budget order servers n e → EachEnds p budget order servers seed (es ++ e ∷ [])
-ends_more p budget order servers seed [] n e at each is =
+ends_more : (p : List (PlainItem ℕ)) (budget : ℕ) (orders : Orders) (servers : List ℕ) (seed : ℕ) (es : List PlainEnded) (n : ℕ) (e : PlainEnded) → n ≡ seed + length es
+    → EachEnds p budget orders servers seed es → EndsSoBy p budget orders servers n e → EachEnds p budget orders servers seed (es ++ e ∷ [])
+ends_more p budget orders servers seed [] n e at each is =
     let here : n ≡ seed = omega arith in
-    (subst (λ k. EndsSoBy p budget order servers k e) here is, tt)
-ends_more p budget order servers seed (x ∷ es) n e at each is =
+    (subst (λ k. EndsSoBy p budget orders servers k e) here is, tt)
+ends_more p budget orders servers seed (x ∷ es) n e at each is =
     let next : n ≡ suc seed + length es = omega arith in
-    (each.0, ends_more p budget order servers (suc seed) es n e next each.1 is)
+    (each.0, ends_more p budget orders servers (suc seed) es n e next each.1 is)
 
 classed_more : (seed : ℕ) (es : List Finish) (n : ℕ) (e : Finish) (cs : List PlainClass) → n ≡ seed + length es
     → classed_all seed (es ++ e ∷ []) cs ≡ classed n e (classed_all seed es cs)
@@ -123,12 +125,12 @@ is_few p asked m made so_far h =
     All-weaker (λ (x : PlainClass). x.summary.runs ≤ length so_far.ends) (λ (x : PlainClass). x.summary.runs < m) (λ x g. omega (arith, g, many, h)) made.classes all
 
 module _ (p : List (PlainItem ℕ)) (asked : Asked) (old new : PlainExplored) (e : PlainEnded) (so_far : SoFar p asked old) (n : ℕ) (at : n ≡ asked.first + old.runs)
-    (is : EndsSoBy p asked.budget asked.order asked.servers.now n e) (made : new ≡ with_ended n e old) where
+    (is : EndsSoBy p asked.budget asked.orders asked.servers.now n e) (made : new ≡ with_ended n e old) where
   at_seed : n ≡ asked.first + length so_far.ends
   at_seed = at ∙ ap (λ k. asked.first + k) (as_many p asked old so_far)
 
-  each_so : EachEnds p asked.budget asked.order asked.servers.now asked.first (so_far.ends ++ e ∷ [])
-  each_so = ends_more p asked.budget asked.order asked.servers.now asked.first so_far.ends n e at_seed so_far.each is
+  each_so : EachEnds p asked.budget asked.orders asked.servers.now asked.first (so_far.ends ++ e ∷ [])
+  each_so = ends_more p asked.budget asked.orders asked.servers.now asked.first so_far.ends n e at_seed so_far.each is
 
   all_so : new ≡ gathered asked.first (so_far.ends ++ e ∷ [])
   all_so =
@@ -136,15 +138,15 @@ module _ (p : List (PlainItem ℕ)) (asked : Asked) (old new : PlainExplored) (e
       ∙ (ap (with_ended n e) so_far.gathered_so
       ∙ sym (gathered_more asked.first so_far.ends n e at_seed))
 
-  pub goes_on : stops asked.until e ≡ false → SoFar p asked new
+  pub goes_on : stops asked.until.now e ≡ false → SoFar p asked new
   goes_on not_yet = record {
     ends = so_far.ends ++ e ∷ [];
     each = each_so;
-    none = any_more (stops asked.until) so_far.ends e not_yet so_far.none;
+    none = any_more (stops asked.until.now) so_far.ends e not_yet so_far.none;
     gathered_so = all_so;
   }
 
-  pub has_stopped : stops asked.until e ≡ true → old.runs < asked.runs → IsExplored p asked new
+  pub has_stopped : stops asked.until.now e ≡ true → old.runs < asked.runs → IsExplored p asked new
   has_stopped is_last h =
       let many = as_many p asked old so_far in
       record {
@@ -154,7 +156,7 @@ module _ (p : List (PlainItem ℕ)) (asked : Asked) (old new : PlainExplored) (e
         gathered_so = all_so;
       }
 
-  pub stopped_so : stops asked.until e ≡ true → old.runs < asked.runs → StopsLast p asked new
+  pub stopped_so : stops asked.until.now e ≡ true → old.runs < asked.runs → StopsLast p asked new
   stopped_so is_last h =
       let more : new.runs ≡ old.runs + 1 = ap (λ (m : PlainExplored). m.runs) made in
       record {
@@ -182,12 +184,13 @@ made_so true p asked made so_far h is = let same : made.runs ≡ asked.runs = gr
 made_so false p asked made so_far h is = let few : made.runs < asked.runs = grind (arith, nat_tests) in (so_far, few)
 
 -- a run was added, which a hub has made by the seed
-pub added_by : {E : Type 0} (r : Result Bool E) (p : List (PlainItem ℕ)) (budget : ℕ) (order : Order) (servers : List ℕ)
-    (until : Option Until) (seed : ℕ) (h : Kept) (old new : PlainExplored) → IsSeedRun p budget order seed h
+pub added_by : {E : Type 0} (r : Result Bool E) (p : List (PlainItem ℕ)) (budget : ℕ) (orders : Orders) (order : Order) (servers : List ℕ)
+    (until : List Until) (seed : ℕ) (h : Kept) (old new : PlainExplored) → order ≡ seed_order orders seed → IsSeedRun p budget order seed h
     → IfOk r (λ s. (e : PlainEnded) × IsEndOf servers h e × (new ≡ with_ended seed e old) × (s ≡ stops until e))
-    → IfOk r (λ s. (e : PlainEnded) × EndsSoBy p budget order servers seed e × (new ≡ with_ended seed e old) × (s ≡ stops until e))
-added_by (Ok s) p budget order servers until seed h old new run is = (is.0, (h, run, is.1), is.2, is.3)
-added_by (Err x) p budget order servers until seed h old new run is = tt
+    → IfOk r (λ s. (e : PlainEnded) × EndsSoBy p budget orders servers seed e × (new ≡ with_ended seed e old) × (s ≡ stops until e))
+added_by (Ok s) p budget orders order servers until seed h old new at run is =
+    (is.0, (h, subst (λ (o : Order). IsSeedRun p budget o seed h) at run, is.1), is.2, is.3)
+added_by (Err x) p budget orders order servers until seed h old new at run is = tt
 
 -- they are at most as many as were asked for
 pub at_most : (p : List (PlainItem ℕ)) (asked : Asked) (made : PlainExplored) → IsExplored p asked made → made.runs ≤ asked.runs

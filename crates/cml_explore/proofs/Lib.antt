@@ -8,5 +8,7 @@ pub mod Crossing
 pub mod SightLemmas
 pub mod RankLemmas
 pub mod LawLemmas
+pub mod JudgeLemmas
 pub mod ToldLemmas
 pub mod EndLemmas
+pub mod OutcomeLemmas

@@ -83,12 +83,12 @@ neither false b e f = f
 
 module _ (p : List (PlainItem ℕ)) (asked : Asked) where
   each_append : (seed : ℕ) (xs ys : List PlainEnded) (n : ℕ) → n ≡ seed + length xs
-      → EachEnds p asked.budget asked.order asked.servers.now seed xs
-      → EachEnds p asked.budget asked.order asked.servers.now n ys
-      → EachEnds p asked.budget asked.order asked.servers.now seed (xs ++ ys)
+      → EachEnds p asked.budget asked.orders asked.servers.now seed xs
+      → EachEnds p asked.budget asked.orders asked.servers.now n ys
+      → EachEnds p asked.budget asked.orders asked.servers.now seed (xs ++ ys)
   each_append seed [] ys n at each more =
       let here : n ≡ seed = omega arith in
-      subst (λ k. EachEnds p asked.budget asked.order asked.servers.now k ys) here more
+      subst (λ k. EachEnds p asked.budget asked.orders asked.servers.now k ys) here more
   each_append seed (x ∷ xs) ys n at each more =
       let next : n ≡ suc seed + length xs = omega arith in
       (each.0, each_append (suc seed) xs ys n next each.1 more)
@@ -107,7 +107,7 @@ module _ (p : List (PlainItem ℕ)) (asked : Asked) where
     joined_on part = record {
       ends = so_far.ends ++ part.ends;
       each = each_append asked.first so_far.ends part.ends first at_seed so_far.each part.each;
-      none = list_any-append (stops asked.until) so_far.ends part.ends ∙ neither _ _ so_far.none part.none;
+      none = list_any-append (stops asked.until.now) so_far.ends part.ends ∙ neither _ _ so_far.none part.none;
       gathered_so = merged_so part.ends part.gathered_so;
     }
 
@@ -126,7 +126,7 @@ module _ (p : List (PlainItem ℕ)) (asked : Asked) where
             part.last,
             sym (append_assoc so_far.ends part.before (part.last ∷ [])),
             omega (arith, length-append so_far.ends ends, here, there, less, few),
-            list_any-append (stops asked.until) so_far.ends part.before ∙ neither _ _ so_far.none part.none,
+            list_any-append (stops asked.until.now) so_far.ends part.before ∙ neither _ _ so_far.none part.none,
             part.stops_there,
           );
           gathered_so = merged_so ends part.gathered_so;

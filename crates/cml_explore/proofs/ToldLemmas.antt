@@ -5,24 +5,14 @@ use Rattle.std.specs.List.{All}
 use Rattle.std.specs.declared.alloc.Global.{Global}
 use Rattle.std.proofs.lemmas.List.{map_push, take_more}
 use Rattle.cml_check.specs.Syntax.{PlainItem}
-use Rattle.cml_hub.specs.Kept.{Kept}
 use Rattle.cml_phrase.specs.declared.place.Place.{Place}
-use Rattle.cml_seed.specs.declared.order.Order.{Order}
-use Rattle.cml_seed.specs.SeedRuns.{IsSeedRun}
 use Rattle.cml_explore.specs.declared.explored.Asked.{Asked}
 use Rattle.cml_explore.specs.declared.told.ClassTold.{ClassTold}
-use Rattle.cml_explore.specs.declared.told.RunTold.{RunTold}
 use Rattle.cml_explore.specs.declared.told.RunsTold.{RunsTold}
 use Rattle.cml_explore.specs.Classes.{PlainClass}
 use Rattle.cml_explore.specs.Explored.{PlainExplored}
 use Rattle.cml_explore.specs.Ranks.{AreInRank}
-use Rattle.cml_explore.specs.Told.{IsRunTold, IsSeedTold, IsClassTold, AreClassesTold, last_seed, IsToldOfRuns}
-
--- the run of the hub is that of the seed
-pub seed_so : {E : Type 0} (r : Result RunTold E) (places : List (List Place)) (p : List (PlainItem ℕ)) (budget : ℕ) (order : Order) (seed : ℕ) (h : Kept)
-    → IsSeedRun p budget order seed h → IfOk r (λ told. IsRunTold places h told) → IfOk r (λ told. IsSeedTold places p budget order seed told)
-seed_so (Ok told) places p budget order seed h run is = (h, run, is)
-seed_so (Err e) places p budget order seed h run is = tt
+use Rattle.cml_explore.specs.Told.{IsClassTold, AreClassesTold, last_seed, IsToldOfRuns}
 
 -- the number of one class more
 pub numbers_more : (numbers : List ℕ) (i : ℕ) (told : List ClassTold) (class : ClassTold) → i < length numbers → class.number ≡ get_or numbers i 0
@@ -32,22 +22,23 @@ numbers_more numbers i told class h is so_far =
     ∙ (ap (λ l. l ++ class.number ∷ []) so_far ∙ (ap (λ n. take i numbers ++ n ∷ []) is ∙ sym (take_more numbers i 0 h)))
 
 -- the classes are told of in rank order
-pub all_so : {E : Type 0} (r : Result (Vec ClassTold Global) E) (places : List (List Place)) (p : List (PlainItem ℕ)) (budget : ℕ) (order : Order) (classes : List PlainClass) (numbers slice : List ℕ)
+pub all_so : {E : Type 0} (r : Result (Vec ClassTold Global) E) (places : List (List Place)) (p : List (PlainItem ℕ)) (asked : Asked) (classes : List PlainClass) (numbers slice : List ℕ)
     → AreInRank classes numbers → slice ≡ numbers → IfOk r (λ told. map (λ (c : ClassTold). c.number) told.items ≡ slice)
-    → IfOk r (λ told. All (IsClassTold places p budget order classes) told.items) → IfOk r (λ told. AreClassesTold places p budget order classes told.items)
-all_so (Ok told) places p budget order classes numbers slice ranked same are each = record {
+    → IfOk r (λ told. All (IsClassTold places p asked classes) told.items) → IfOk r (λ told. AreClassesTold places p asked classes told.items)
+all_so (Ok told) places p asked classes numbers slice ranked same are each = record {
   ranked = subst (λ (ns : List ℕ). AreInRank classes ns) (sym (are ∙ same)) ranked;
   each = each;
 }
-all_so (Err e) places p budget order classes numbers slice ranked same are each = tt
+all_so (Err e) places p asked classes numbers slice ranked same are each = tt
 
 pub runs_so : (p : List (PlainItem ℕ)) (asked : Asked) (made : PlainExplored) (places all : List (List Place)) (classes : List PlainClass) (told : RunsTold)
-    → places ≡ all → classes ≡ made.classes → told.runs ≡ made.runs → told.first ≡ asked.first → told.last ≡ last_seed asked.first told.runs
-    → AreClassesTold places p asked.budget asked.order classes told.classes.items → IsToldOfRuns all p asked made told
-runs_so p asked made places all classes told at same runs first last are = record {
+    → places ≡ all → classes ≡ made.classes → told.runs ≡ made.runs → told.first ≡ asked.first → told.last ≡ last_seed asked.first told.runs → told.orders ≡ asked.orders
+    → AreClassesTold places p asked classes told.classes.items → IsToldOfRuns all p asked made told
+runs_so p asked made places all classes told at same runs first last orders are = record {
   runs_are = runs;
   first_is = first;
   last_is = last ∙ ap (last_seed asked.first) runs;
-  classes_are = subst (λ (ps : List (List Place)). AreClassesTold ps p asked.budget asked.order made.classes told.classes.items) at
-      (subst (λ (cs : List PlainClass). AreClassesTold places p asked.budget asked.order cs told.classes.items) same are);
+  orders_are = orders;
+  classes_are = subst (λ (ps : List (List Place)). AreClassesTold ps p asked made.classes told.classes.items) at
+      (subst (λ (cs : List PlainClass). AreClassesTold places p asked cs told.classes.items) same are);
 }

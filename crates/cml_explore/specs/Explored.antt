@@ -1,5 +1,5 @@
 -- Runs of a program by one seed after another.
-use Rattle.std.specs.Prelude.{ℕ, ◌≡◌, ◌≤◌, ◌<◌, ◌+◌, ◌⊎◌, Bool, true, false, ◌&&◌, List, [], ◌∷◌, ◌++◌, map, length, Option}
+use Rattle.std.specs.Prelude.{ℕ, ◌≡◌, ◌≤◌, ◌<◌, ◌+◌, ◌⊎◌, Bool, true, false, ◌&&◌, List, [], ◌∷◌, ◌++◌, map, length}
 use Rattle.std.specs.List.{list_any, list_all}
 use Rattle.cml_check.specs.Syntax.{PlainItem}
 use Rattle.cml_explore.specs.declared.explored.Asked.{Asked}
@@ -22,7 +22,7 @@ gathered first ends = record {
 }
 
 -- These are enough runs: as many as were asked for, none of them one at which to stop; or all up to the first at which to stop.
-abbrev pub AreEnough : Option Until → ℕ → List PlainEnded → Type 0
+abbrev pub AreEnough : List Until → ℕ → List PlainEnded → Type 0
 AreEnough until runs ends =
     ((length ends ≡ runs) × (list_any (stops until) ends ≡ false))
     ⊎ ((before : List PlainEnded) × (last : PlainEnded) × (ends ≡ before ++ last ∷ []) × (length ends ≤ runs)
@@ -31,15 +31,15 @@ AreEnough until runs ends =
 -- What was asked for was done: these are the classes of the runs that the seeds define, one after another.
 pub record IsExplored (p : List (PlainItem ℕ)) (asked : Asked) (made : PlainExplored) : Type 0 where
   pub ends : List PlainEnded
-  pub each : EachEnds p asked.budget asked.order asked.servers.now asked.first ends
-  pub enough : AreEnough asked.until asked.runs ends
+  pub each : EachEnds p asked.budget asked.orders asked.servers.now asked.first ends
+  pub enough : AreEnough asked.until.now asked.runs ends
   pub gathered_so : made ≡ gathered asked.first ends
 
 -- So far these are the classes of the runs that the first seeds define, none of which is one at which to stop.
 pub record SoFar (p : List (PlainItem ℕ)) (asked : Asked) (made : PlainExplored) : Type 0 where
   pub ends : List PlainEnded
-  pub each : EachEnds p asked.budget asked.order asked.servers.now asked.first ends
-  pub none : list_any (stops asked.until) ends ≡ false
+  pub each : EachEnds p asked.budget asked.orders asked.servers.now asked.first ends
+  pub none : list_any (stops asked.until.now) ends ≡ false
   pub gathered_so : made ≡ gathered asked.first ends
 
 -- One run more was made: it was the last, and what was asked for was done; or there are more to make.

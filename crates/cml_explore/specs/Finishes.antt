@@ -1,5 +1,6 @@
 -- How the run of a program by a seed ended.
-use Rattle.std.specs.Prelude.{ℕ, suc, ◌≡◌, ◌==◌, Bool, true, false, not, ◌&&◌, List, [], ◌∷◌, Option, Some, None}
+use Rattle.std.specs.Prelude.{ℕ, suc, ◌≡◌, ◌==◌, Bool, true, false, not, ◌&&◌, List, [], ◌∷◌}
+use Rattle.std.specs.List.{list_any}
 use Rattle.sha2.specs.Sha256.{sha256}
 use Rattle.cml_check.specs.Syntax.{PlainItem}
 use Rattle.cml_step.specs.Calls.{text_of}
@@ -13,7 +14,8 @@ use Rattle.cml_ending.specs.Stuck.{is_quiet, some_held_up}
 use Rattle.cml_explore.specs.declared.finish.Fate.{Fate}
 use Rattle.cml_explore.specs.declared.explored.Until.{Until}
 use Rattle.cml_explore.specs.declared.explored.Until.TheVariants as until
-use Rattle.cml_seed.specs.declared.order.Order.{Order}
+use Rattle.cml_explore.specs.declared.orders.Orders.{Orders}
+use Rattle.cml_explore.specs.Orders.{seed_order}
 use Rattle.cml_seed.specs.SeedRuns.{IsSeedRun}
 use Rattle.cml_fault.specs.declared.detail.Detail.{Detail}
 use Rattle.cml_fault.specs.Details.{AreDetails}
@@ -48,15 +50,21 @@ is_used end.Quiet = false
 is_used end.Budget = true
 is_used end.Partial = false
 
--- the run is one at which to stop: a thread waits that is no server; a thread ended at a fault; the budget is used
+-- the run is one at which to stop: a thread waits that is no server; moreover nothing was left to do; a thread ended at a fault; the budget is
+-- used; it did not end well
 abbrev pub stops_at : Until → Fate → Bool
 stops_at until.Waits f = f.held_up
+stops_at until.Deadlock f = f.held_up && is_quiet f.end
 stops_at until.Fault f = not (f.faults == 0)
 stops_at until.Budget f = is_used f.end
+stops_at until.Bad f = not (is_good f)
 
-abbrev pub stops : Option Until → PlainEnded → Bool
-stops None e = false
-stops (Some until) e = stops_at until e.fate
+-- one of these says so
+abbrev pub stops_by : List Until → Fate → Bool
+stops_by until f = list_any (λ one. stops_at one f) until
+
+abbrev pub stops : List Until → PlainEnded → Bool
+stops until e = stops_by until e.fate
 
 -- so the run of a hub ended: its finish, and what is to be told of it
 pub record IsEndOf (servers : List ℕ) (h : Kept) (e : PlainEnded) : Type 0 where
@@ -65,10 +73,10 @@ pub record IsEndOf (servers : List ℕ) (h : Kept) (e : PlainEnded) : Type 0 whe
   pub fate_is : e.fate ≡ fate_of servers h
 
 -- the run of the program by this seed ended so
-abbrev pub EndsSoBy : List (PlainItem ℕ) → ℕ → Order → List ℕ → ℕ → PlainEnded → Type 0
-EndsSoBy p budget order servers seed e = (h : Kept) × IsSeedRun p budget order seed h × IsEndOf servers h e
+abbrev pub EndsSoBy : List (PlainItem ℕ) → ℕ → Orders → List ℕ → ℕ → PlainEnded → Type 0
+EndsSoBy p budget orders servers seed e = (h : Kept) × IsSeedRun p budget (seed_order orders seed) seed h × IsEndOf servers h e
 
 -- the runs by this seed and those that follow it ended so, in turn
-abbrev pub EachEnds : List (PlainItem ℕ) → ℕ → Order → List ℕ → ℕ → List PlainEnded → Type 0
-EachEnds p budget order servers seed [] = Unit {0}
-EachEnds p budget order servers seed (e ∷ es) = EndsSoBy p budget order servers seed e × EachEnds p budget order servers (suc seed) es
+abbrev pub EachEnds : List (PlainItem ℕ) → ℕ → Orders → List ℕ → ℕ → List PlainEnded → Type 0
+EachEnds p budget orders servers seed [] = Unit {0}
+EachEnds p budget orders servers seed (e ∷ es) = EndsSoBy p budget orders servers seed e × EachEnds p budget orders servers (suc seed) es

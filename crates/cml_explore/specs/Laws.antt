@@ -10,6 +10,8 @@ use Rattle.cml_fault.specs.Details.{AreDetails, alike}
 use Rattle.cml_explore.specs.Classes.{PlainClass}
 use Rattle.cml_seed.specs.SeedRuns.{IsSeedRun}
 use Rattle.cml_explore.specs.Explored.{PlainExplored, IsExplored}
+use Rattle.cml_explore.specs.Finishes.{fate_of, is_good}
+use Rattle.cml_explore.specs.Orders.{seed_order}
 
 -- This is the schedule of the run by one of so many seeds, which ended as the runs of a class did that have these details.
 pub record IsOneOfClass (p : List (PlainItem ℕ)) (asked : Asked) (runs : ℕ) (details : List Detail) (items : List Item) : Type 0 where
@@ -17,7 +19,7 @@ pub record IsOneOfClass (p : List (PlainItem ℕ)) (asked : Asked) (runs : ℕ) 
   pub from : asked.first ≤ seed
   pub below : seed < asked.first + runs
   pub hub : Kept
-  pub run : IsSeedRun p asked.budget asked.order seed hub
+  pub run : IsSeedRun p asked.budget (seed_order asked.orders seed) seed hub
   pub ended : List Detail
   pub are : AreDetails hub ended
   pub same : alike ended details ≡ true
@@ -27,6 +29,12 @@ pub record IsOneOfClass (p : List (PlainItem ℕ)) (asked : Asked) (runs : ℕ) 
 abbrev pub KeepsItsOwn : Type 0
 KeepsItsOwn =
     (p : List (PlainItem ℕ)) (asked : Asked) (made : PlainExplored) → IsExplored p asked made → All (λ c. IsOneOfClass p asked made.runs c.details c.summary.shortest) made.classes
+
+-- Runs that ended alike are all good, or all bad.
+abbrev pub JudgedAlike : Type 0
+JudgedAlike =
+    (servers : List ℕ) (one other : Kept) (ds es : List Detail) → AreDetails one ds → AreDetails other es → alike ds es ≡ true
+    → is_good (fate_of servers one) ≡ is_good (fate_of servers other)
 
 -- Each run counts once.
 abbrev pub CountsEachOnce : Type 0

@@ -1,3 +1,4 @@
+pub mod Orders
 pub mod Classes
 pub mod Finishes
 pub mod Explored
@@ -6,6 +7,7 @@ pub mod Sights
 pub mod Ranks
 pub mod Told
 pub mod Ends
+pub mod Outcomes
 pub mod SightViews
 pub mod ClassViews
 pub mod Laws

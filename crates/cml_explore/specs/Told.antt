@@ -11,7 +11,6 @@ use Rattle.cml_phrase.specs.declared.place.Place.{Place}
 use Rattle.cml_ending.specs.declared.standing.Spot.{Spot}
 use Rattle.cml_ending.specs.declared.left.Stands.TheVariants as standing
 use Rattle.cml_fault.specs.Falls.{PlainFall, AreFalls}
-use Rattle.cml_seed.specs.declared.order.Order.{Order}
 use Rattle.cml_seed.specs.SeedRuns.{IsSeedRun}
 use Rattle.cml_explore.specs.declared.explored.Asked.{Asked}
 use Rattle.cml_explore.specs.declared.told.ClassTold.{ClassTold}
@@ -22,6 +21,8 @@ use Rattle.cml_explore.specs.declared.told.ThreadState.{ThreadState}
 use Rattle.cml_explore.specs.declared.told.ThreadState.TheVariants as states
 use Rattle.cml_explore.specs.Classes.{PlainClass}
 use Rattle.cml_explore.specs.Explored.{PlainExplored}
+use Rattle.cml_explore.specs.Finishes.{fate_of, is_good}
+use Rattle.cml_explore.specs.Orders.{seed_order}
 use Rattle.cml_explore.specs.Ranks.{AreInRank}
 use Rattle.cml_explore.specs.Sights.{sight_of, AreSpotsToTell, threads_told}
 
@@ -52,32 +53,35 @@ pub record IsRunTold (places : List (List Place)) (h : Kept) (told : RunTold) : 
   pub runs_are : told.runs ≡ count_by (λ t. is_run t.state) told.threads.items
   pub faults_are : told.faults ≡ fault_count (text_of h.course.program) h.course.items
 
--- what is told of the run of a program by a seed
-abbrev pub IsSeedTold : List (List Place) → List (PlainItem ℕ) → ℕ → Order → ℕ → RunTold → Type 0
-IsSeedTold places p budget order seed told = (h : Kept) × IsSeedRun p budget order seed h × IsRunTold places h told
+-- what is told of the run of a program by a seed, and whether it ended well
+abbrev pub IsSeedTold : List (List Place) → List (PlainItem ℕ) → Asked → ℕ → Bool → RunTold → Type 0
+IsSeedTold places p asked seed well told =
+    (h : Kept) × IsSeedRun p asked.budget (seed_order asked.orders seed) seed h × (well ≡ is_good (fate_of asked.servers.now h)) × IsRunTold places h told
 
 -- What is told of one of the classes: what is kept of it, and what is told of its first run.
-pub record IsClassTold (places : List (List Place)) (p : List (PlainItem ℕ)) (budget : ℕ) (order : Order) (classes : List PlainClass) (told : ClassTold) : Type 0 where
+pub record IsClassTold (places : List (List Place)) (p : List (PlainItem ℕ)) (asked : Asked) (classes : List PlainClass) (told : ClassTold) : Type 0 where
   pub class : PlainClass
   pub there : slice_get classes told.number ≡ Some class
   pub runs_are : told.runs ≡ class.summary.runs
   pub outputs_are : told.outputs ≡ length class.summary.outputs
   pub first_is : told.first ≡ class.summary.first
   pub items_are : told.items ≡ class.summary.items
-  pub run_is : IsSeedTold places p budget order told.first told.run
+  pub order_is : told.order ≡ seed_order asked.orders told.first
+  pub run_is : IsSeedTold places p asked told.first told.well told.run
 
 -- What is told of the classes: of each, by size.
-pub record AreClassesTold (places : List (List Place)) (p : List (PlainItem ℕ)) (budget : ℕ) (order : Order) (classes : List PlainClass) (told : List ClassTold) : Type 0 where
+pub record AreClassesTold (places : List (List Place)) (p : List (PlainItem ℕ)) (asked : Asked) (classes : List PlainClass) (told : List ClassTold) : Type 0 where
   pub ranked : AreInRank classes (map (λ c. c.number) told)
-  pub each : All (IsClassTold places p budget order classes) told
+  pub each : All (IsClassTold places p asked classes) told
 
 -- the seed of the last of so many runs, where there are more than one
 abbrev pub last_seed : ℕ → ℕ → Option ℕ
 last_seed first runs = if nat_le runs 1 then None else Some (first + (runs - 1))
 
--- What is told of the runs that were asked for, of which these were made: how many there are, by which seeds, and their classes.
+-- What is told of the runs that were asked for, of which these were made: how many there are, by which seeds, in which orders, and their classes.
 pub record IsToldOfRuns (places : List (List Place)) (p : List (PlainItem ℕ)) (asked : Asked) (made : PlainExplored) (told : RunsTold) : Type 0 where
   pub runs_are : told.runs ≡ made.runs
   pub first_is : told.first ≡ asked.first
   pub last_is : told.last ≡ last_seed asked.first made.runs
-  pub classes_are : AreClassesTold places p asked.budget asked.order made.classes told.classes.items
+  pub orders_are : told.orders ≡ asked.orders
+  pub classes_are : AreClassesTold places p asked made.classes told.classes.items

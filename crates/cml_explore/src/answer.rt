@@ -10,8 +10,8 @@ use cml_check::Prog;
 use cml_text::Sexpr;
 use std::alloc::{AllocError, Global};
 
-/// What is told of the runs that were asked for ([`tell_runs`]), in words ([`write_runs`]). The script has this name, text and forms, and is this
-/// program.
+/// What is told of the runs that were asked for ([`tell_runs`]), in words ([`write_runs`]), where no schedule is saved. The script has this name,
+/// text and forms, and is this program.
 ///
 /// # Errors
 /// Out of memory.
@@ -29,6 +29,6 @@ pub fn explain_runs(
 {
     let told = tell_runs(alloc, text, forms, program, asked, made)?;
     let mut said = Vec::new(alloc);
-    write_runs(alloc, &mut said, name, forms, &told)?;
+    write_runs(alloc, &mut said, name, forms, &told, None)?;
     Ok(said)
 }

@@ -10,6 +10,7 @@ ghost use Rattle.cml_explore.specs.Ends as spec;
 use crate::classes::Classes;
 use crate::explored::{Asked, Explored, is_well};
 use crate::finish::fate_of;
+use crate::orders::Orders;
 use crate::tell::run_told;
 use crate::told::RunTold;
 use cml_check::Prog;
@@ -43,8 +44,8 @@ pub struct EndsTold {
     pub order: Vec<usize>,
 }
 
-// The hub that has gone through this schedule of the program.
-fn hub_by(alloc: Global, program: &Prog, items: &[Item]) -> Result<Hub, AllocError>
+/// The hub that has gone through this schedule of the program.
+pub(crate) fn hub_by(alloc: Global, program: &Prog, items: &[Item]) -> Result<Hub, AllocError>
     ensures { IfOk result (HasGoneThrough program.now items.now) }
 {
     let again = program.copy()?;
@@ -62,9 +63,9 @@ fn asked_of(servers: &[u32]) -> Asked<'_>
         budget: BUDGET,
         first: 0,
         runs: 0,
-        order: Order::Queue,
+        orders: Orders::Named(Order::Queue),
         servers,
-        until: None,
+        until: &[],
     }
 }
 

@@ -9,11 +9,12 @@ ghost use Rattle.cml_explore.specs.Finishes as spec;
 
 use crate::classes::Classes;
 use crate::finish::{Fate, digest_of, fate_of};
+use crate::orders::Orders;
 use cml_check::Prog;
 use cml_ending::let_go;
 use cml_fault::details_of;
 use cml_hub::{End, Hub};
-use cml_seed::{Order, seed_run};
+use cml_seed::seed_run;
 use std::alloc::{AllocError, Global};
 use std::marker::Model;
 
@@ -22,10 +23,14 @@ use std::marker::Model;
 pub enum Until {
     /// A thread waits that is no server.
     Waits,
+    /// A thread waits that is no server, and nothing was left to do.
+    Deadlock,
     /// A thread ended at a fault.
     Fault,
     /// The budget was used.
     Budget,
+    /// It did not end well.
+    Bad,
 }
 
 /// Which runs are asked for.
@@ -38,11 +43,11 @@ pub struct Asked<'a> {
     /// How many.
     pub runs: u64,
     /// By what it is settled in each what happens next.
-    pub order: Order,
+    pub orders: Orders,
     /// The numbers of the functions of servers: a thread that began with one of them may wait.
     pub servers: &'a [u32],
-    /// The run at which to stop, if at any before all were made.
-    pub until: Option<Until>,
+    /// The runs at which to stop, before all were made: the first of any of these kinds.
+    pub until: &'a [Until],
 }
 
 /// Runs of a program, in classes of those that ended alike.
@@ -68,16 +73,24 @@ pub(crate) fn is_well(fate: Fate) -> bool
     fate.end == End::Quiet && !fate.held_up && fate.faults == 0
 }
 
-// Whether a run of this fate is one at which to stop.
-fn stops(until: Option<Until>, fate: Fate) -> bool
-    ensures { (e : PlainEnded) → e.fate ≡ fate → result ≡ spec.stops until e }
+// Whether a run of this fate is one at which this says to stop.
+fn stops_at(until: Until, fate: Fate) -> bool
+    ensures { result ≡ spec.stops_at until fate }
 {
     match until {
-        None => false,
-        Some(Until::Waits) => fate.held_up,
-        Some(Until::Fault) => fate.faults != 0,
-        Some(Until::Budget) => fate.end == End::Budget,
+        Until::Waits => fate.held_up,
+        Until::Deadlock => fate.held_up && fate.end == End::Quiet,
+        Until::Fault => fate.faults != 0,
+        Until::Budget => fate.end == End::Budget,
+        Until::Bad => !is_well(fate),
     }
+}
+
+// Whether it is one at which one of these says to stop.
+fn stops(until: &[Until], fate: Fate) -> bool
+    ensures { result ≡ spec.stops_by until.now fate }
+{
+    until.iter().any(|one| stops_at(*one, fate))
 }
 
 // Whether so many runs are all that were asked for.
@@ -118,7 +131,7 @@ impl Explored {
         requires few { All (λ c. c.summary.runs < u64.MAX) self.old.classes }
         requires runs { self.old.runs < u64.MAX }
         ensures added { IfOk result (λ stops. (e : PlainEnded) × IsEndOf asked.now.servers.now hub.now e
-            × (self.new ≡ with_ended seed e self.old) × (stops ≡ spec.stops asked.now.until e)) }
+            × (self.new ≡ with_ended seed e self.old) × (stops ≡ spec.stops asked.now.until.now e)) }
         ensures err { OnErr result (self.new ≡ self.old) }
     {
         let details = details_of(alloc, hub)?;
@@ -141,11 +154,12 @@ impl Explored {
         requires budget { IsBudget asked.now.budget }
         requires few { All (λ c. c.summary.runs < u64.MAX) self.old.classes }
         requires runs { self.old.runs < u64.MAX }
-        ensures added { IfOk result (λ stops. (e : PlainEnded) × EndsSoBy program.now asked.now.budget asked.now.order asked.now.servers.now seed e
-            × (self.new ≡ with_ended seed e self.old) × (stops ≡ spec.stops asked.now.until e)) }
+        ensures added { IfOk result (λ stops. (e : PlainEnded) × EndsSoBy program.now asked.now.budget asked.now.orders asked.now.servers.now seed e
+            × (self.new ≡ with_ended seed e self.old) × (stops ≡ spec.stops asked.now.until.now e)) }
         ensures err { OnErr result (self.new ≡ self.old) }
     {
-        let hub = seed_run(alloc, program, asked.budget, asked.order, seed)?;
+        let order = asked.orders.of(seed);
+        let hub = seed_run(alloc, program, asked.budget, order, seed)?;
         let added = self.add_hub(alloc, asked, seed, &hub);
         let_go(hub);
         added

@@ -13,8 +13,9 @@ use std::alloc::{AllocError, Global};
 use std::sync::atomic::{AtomicUsize, Ordering};
 use std::thread::{self, Threads};
 
-/// How many runs a round has for each thread at least, where so many are left.
-const LEAST: u64 = 256;
+/// How many runs a round has for each thread at least, where so many are left. The first rounds are short, so that not much is made for nothing
+/// where a run at which to stop comes early.
+const LEAST: u64 = 4;
 
 /// How many it has at most, where no more classes are known than that.
 const MOST: u64 = 4096;
@@ -157,6 +158,14 @@ fn make_part_of(
     make_part(alloc, program, &own)
 }
 
+// Where this part has a run at which to stop, no thread takes a further one of so many: those before it are taken, and those behind it would be
+// let go.
+fn stop_taking(next: &AtomicUsize, count: usize, stopped: bool) {
+    if stopped {
+        next.store(count, Ordering::SeqCst);
+    }
+}
+
 // Makes one part after another: each time the next one that no thread has taken.
 fn take_parts(
     alloc: Global,
@@ -178,6 +187,7 @@ fn take_parts(
             return Ok(taken);
         }
         let part = make_part_of(alloc, program, asked, round, number)?;
+        stop_taking(next, count, part.stopped);
         taken.push(Taken { number, part })?;
     }
     Ok(taken)
@@ -447,9 +457,9 @@ impl Explored {
     /// the last: the last of them is one at which to stop, or all were made that were asked for. What is kept is what [`go`](Explored::go) would
     /// have kept, by one run after another: where a thread comes to a run at which to stop, what the threads behind it made is let go.
     ///
-    /// For each thread there are 256 runs, or more where more were made before or more classes are known, or fewer where fewer are left. They are
-    /// cut in parts, and each thread takes the next that no other has taken, so a slow one makes fewer. Where no thread can be made, the others
-    /// make its runs.
+    /// For each thread there are 4 runs, or more where more were made before or more classes are known, or fewer where fewer are left. They are
+    /// cut in parts, and each thread takes the next that no other has taken, so a slow one makes fewer; where a part has a run at which to stop, none
+    /// takes a further one. Where no thread can be made, the others make its runs.
     ///
     /// # Errors
     /// Out of memory. Nothing has changed then.

@@ -7,7 +7,8 @@ ghost use Rattle.cml_explore.specs.Told.{AreClassesTold, AreThreadsTold, IsClass
 ghost use Rattle.cml_explore.specs.Told as spec;
 
 use crate::classes::Classes;
-use crate::explored::{Asked, Explored};
+use crate::explored::{Asked, Explored, is_well};
+use crate::finish::fate_of;
 use crate::sight::{Sighted, spots_of};
 use crate::told::{ClassTold, RunTold, RunsTold, ThreadLeft, ThreadState};
 use cml_check::Prog;
@@ -15,7 +16,7 @@ use cml_ending::{Stands, let_go};
 use cml_fault::retell;
 use cml_hub::Hub;
 use cml_phrase::{Place, statement_places};
-use cml_seed::{Order, seed_run};
+use cml_seed::seed_run;
 use cml_text::Sexpr;
 use std::alloc::{AllocError, Global};
 
@@ -25,8 +26,7 @@ struct Script<'a> {
     alloc: Global,
     places: &'a [Vec<Place>],
     program: &'a Prog,
-    budget: u64,
-    order: Order,
+    asked: Asked<'a>,
 }
 
 // The threads of this run that are left or ended at a fault.
@@ -109,32 +109,36 @@ pub(crate) fn run_told(
 }
 
 impl Script<'_> {
-    // What is told of the run by this seed, which is made once more.
-    fn seed_told(&self, seed: u64) -> Result<RunTold, AllocError>
-        requires { IsBudget self.now.budget }
-        ensures { IfOk result (λ told. IsSeedTold (map (λ own. own.items) self.now.places.now) self.now.program.now self.now.budget self.now.order seed told) }
+    // Whether the run by this seed ended well, and what is told of it. It is made once more.
+    fn seed_told(&self, seed: u64) -> Result<(bool, RunTold), AllocError>
+        requires { IsBudget self.now.asked.budget }
+        ensures { IfOk result (λ told. IsSeedTold (map (λ own. own.items) self.now.places.now) self.now.program.now self.now.asked seed told.0 told.1) }
     {
-        let hub = seed_run(self.alloc, self.program, self.budget, self.order, seed)?;
+        let order = self.asked.orders.of(seed);
+        let hub = seed_run(self.alloc, self.program, self.asked.budget, order, seed)?;
+        let well = is_well(fate_of(self.asked.servers, &hub));
         let told = run_told(self.alloc, self.places, &hub);
         let_go(hub);
-        told
+        Ok((well, told?))
     }
 
     // What is told of the class of this number.
     fn class_told(&self, classes: &Classes, number: usize) -> Result<ClassTold, AllocError>
-        requires budget { IsBudget self.now.budget }
+        requires budget { IsBudget self.now.asked.budget }
         requires number { number < length classes.now }
-        ensures told { IfOk result (λ told. IsClassTold (map (λ own. own.items) self.now.places.now) self.now.program.now self.now.budget self.now.order classes.now told) }
+        ensures told { IfOk result (λ told. IsClassTold (map (λ own. own.items) self.now.places.now) self.now.program.now self.now.asked classes.now told) }
         ensures number { IfOk result (λ told. told.number ≡ number) }
     {
         let summary = classes.class(number).summary;
         let first = summary.first();
-        let run = self.seed_told(first)?;
+        let (well, run) = self.seed_told(first)?;
         Ok(ClassTold {
             number,
+            well,
             runs: summary.runs(),
             outputs: summary.outputs(),
             first,
+            order: self.asked.orders.of(first),
             items: summary.items(),
             run,
         })
@@ -146,10 +150,10 @@ impl Script<'_> {
         classes: &Classes,
         numbers: &[usize],
     ) -> Result<Vec<ClassTold>, AllocError>
-        requires budget { IsBudget self.now.budget }
+        requires budget { IsBudget self.now.asked.budget }
         requires numbers { All (λ n. n < length classes.now) numbers.now }
         ensures numbers { IfOk result (λ told. map (λ c. c.number) told.items ≡ numbers.now) }
-        ensures each { IfOk result (λ told. All (IsClassTold (map (λ own. own.items) self.now.places.now) self.now.program.now self.now.budget self.now.order classes.now) told.items) }
+        ensures each { IfOk result (λ told. All (IsClassTold (map (λ own. own.items) self.now.places.now) self.now.program.now self.now.asked classes.now) told.items) }
     {
         let mut told = Vec::new(self.alloc);
         for index in 0..numbers.len() {
@@ -161,8 +165,8 @@ impl Script<'_> {
 
     // What is told of all classes.
     fn all_told(&self, classes: &Classes) -> Result<Vec<ClassTold>, AllocError>
-        requires budget { IsBudget self.now.budget }
-        ensures { IfOk result (λ told. AreClassesTold (map (λ own. own.items) self.now.places.now) self.now.program.now self.now.budget self.now.order classes.now told.items) }
+        requires budget { IsBudget self.now.asked.budget }
+        ensures { IfOk result (λ told. AreClassesTold (map (λ own. own.items) self.now.places.now) self.now.program.now self.now.asked classes.now told.items) }
     {
         let numbers = classes.ranking(self.alloc)?;
         self.classes_told(classes, numbers.as_slice())
@@ -204,8 +208,7 @@ pub fn tell_runs(
         alloc,
         places: places.as_slice(),
         program,
-        budget: asked.budget,
-        order: asked.order,
+        asked,
     };
     let classes = script.all_told(made.classes())?;
     let runs = made.runs();
@@ -213,6 +216,7 @@ pub fn tell_runs(
         runs,
         first: asked.first,
         last: last_seed(asked.first, runs),
+        orders: asked.orders,
         classes,
     })
 }

@@ -1,9 +1,11 @@
 //! What is told of many runs, as values.
 
+use crate::orders::Orders;
 use cml_ending::{Named, Stands};
 use cml_fault::Reason;
 use cml_hub::End;
 use cml_phrase::Place;
+use cml_seed::Order;
 
 /// How a thread is left when a run has ended.
 pub enum ThreadState {
@@ -54,12 +56,16 @@ pub struct RunTold {
 pub struct ClassTold {
     /// Its number among the classes.
     pub number: usize,
+    /// Whether its first run ended well: nothing was left to do, no thread waits but servers, and none ended at a fault.
+    pub well: bool,
     /// How many runs it has.
     pub runs: u64,
     /// How many different outputs they have.
     pub outputs: usize,
     /// The seed of the first of them.
     pub first: u64,
+    /// What decided in the first what happened next.
+    pub order: Order,
     /// How many items the schedule of the first has.
     pub items: usize,
     /// The first of them.
@@ -75,6 +81,8 @@ pub struct RunsTold {
     pub first: u64,
     /// The seed of the last, where there are more than one.
     pub last: Option<u64>,
+    /// What decided in each what happened next.
+    pub orders: Orders,
     /// The classes of those that ended alike: those with more runs come first, and of those with as many the one with the lesser first seed.
     pub classes: Vec<ClassTold>,
 }

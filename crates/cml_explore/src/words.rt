@@ -1,13 +1,22 @@
 //! What is told of many runs, in words.
 
 use crate::ends::{EndTold, EndsTold};
+use crate::orders::Orders;
 use crate::told::{ClassTold, RunTold, RunsTold, ThreadLeft, ThreadState};
 use cml_ending::{Stands, push_awaited, push_many, push_named, push_number};
 use cml_fault::push_reason;
 use cml_hub::End;
 use cml_phrase::{Place, push_line};
+use cml_seed::Order;
 use cml_text::Sexpr;
 use std::alloc::{AllocError, Global};
+
+// How many classes were bad, and how many good.
+#[derive(Clone, Copy)]
+struct Seen {
+    bad: u64,
+    good: u64,
+}
 
 // How wide the columns are.
 #[derive(Clone, Copy)]
@@ -129,22 +138,41 @@ fn push_outputs(
     }
 }
 
-// Appends which run of a class was the first.
+// Appends the option by which `run` has this order, if it takes one.
+fn push_option(alloc: Global, out: &mut Vec<u8>, order: Order) -> Result<(), AllocError> {
+    match order {
+        Order::Queue => Ok(()),
+        Order::Lot => out.extend_from_slice(b" --turns"),
+        Order::Priority(depth) => {
+            out.extend_from_slice(b" --priority ")?;
+            push_number(alloc, out, u64::from(depth))
+        }
+    }
+}
+
+// Appends by which options `run` makes the first run of a class.
 fn push_first(alloc: Global, out: &mut Vec<u8>, class: &ClassTold) -> Result<(), AllocError> {
-    out.extend_from_slice(b"   first: seed ")?;
+    out.extend_from_slice(b"   first: --seed ")?;
     push_number(alloc, out, class.first)?;
+    push_option(alloc, out, class.order)?;
     out.extend_from_slice(b", ")?;
     push_many(alloc, out, " item", " items", class.items as u64)?;
     out.extend_from_slice(b"\n")
 }
 
-// Appends the number of a class's runs, and how they ended.
+// The word for a class whose runs ended well, or not.
+fn kind_word(well: bool) -> &'static str {
+    if well { "good" } else { "bad" }
+}
+
+// Appends whether a class is good or bad, the number of its runs, and how they ended.
 fn push_end(
     alloc: Global,
     out: &mut Vec<u8>,
     widths: Widths,
     class: &ClassTold,
 ) -> Result<(), AllocError> {
+    push_at_left(alloc, out, 6, kind_word(class.well).as_bytes())?;
     push_at_right(alloc, out, widths.runs, class.runs)?;
     out.extend_from_slice(b"  ")?;
     let words = end_words(alloc, &class.run)?;
@@ -224,6 +252,106 @@ fn push_class(
     push_threads(alloc, out, forms, &class.run)
 }
 
+// One class more that is good, or not.
+fn and_one(seen: Seen, well: bool) -> Seen {
+    if well {
+        Seen {
+            good: seen.good.saturating_add(1),
+            ..seen
+        }
+    } else {
+        Seen {
+            bad: seen.bad.saturating_add(1),
+            ..seen
+        }
+    }
+}
+
+// Appends the line that names the file of a class, where one is saved: the last of its kind so far.
+fn push_saved(
+    alloc: Global,
+    out: &mut Vec<u8>,
+    save: Option<&str>,
+    well: bool,
+    seen: Seen,
+) -> Result<(), AllocError> {
+    let place = if well { seen.good } else { seen.bad };
+    match save {
+        Some(start) => {
+            let kind = kind_word(well);
+            let line = format!(in alloc; "       saved: {start}-{kind}-{place}.schedule\n")?;
+            out.extend_from_slice(line.as_bytes())
+        }
+        None => Ok(()),
+    }
+}
+
+// Appends the lines of all classes.
+fn push_classes(
+    alloc: Global,
+    out: &mut Vec<u8>,
+    forms: &[Sexpr],
+    classes: &[ClassTold],
+    save: Option<&str>,
+) -> Result<(), AllocError> {
+    let widths = widths_of(alloc, classes)?;
+    let mut seen = Seen { bad: 0, good: 0 };
+    for class in classes {
+        push_class(alloc, out, forms, widths, class)?;
+        seen = and_one(seen, class.well);
+        push_saved(alloc, out, save, class.well, seen)?;
+    }
+    Ok(())
+}
+
+// Appends the order of a run.
+fn push_order(alloc: Global, out: &mut Vec<u8>, order: Order) -> Result<(), AllocError> {
+    match order {
+        Order::Queue => out.extend_from_slice(b"picks"),
+        Order::Lot => out.extend_from_slice(b"turns"),
+        Order::Priority(depth) => {
+            out.extend_from_slice(b"priorities of depth ")?;
+            push_number(alloc, out, u64::from(depth))
+        }
+    }
+}
+
+// Appends in which orders the runs were made.
+fn push_orders(alloc: Global, out: &mut Vec<u8>, orders: Orders) -> Result<(), AllocError> {
+    out.extend_from_slice(b" by ")?;
+    match orders {
+        Orders::Named(order) => push_order(alloc, out, order),
+        Orders::Round => out.extend_from_slice(b"picks, turns and priorities"),
+    }
+}
+
+// How many runs the bad classes have.
+fn bad_runs(classes: &[ClassTold]) -> u64 {
+    let mut bad: u64 = 0;
+    for class in classes {
+        if !class.well {
+            bad = bad.saturating_add(class.runs);
+        }
+    }
+    bad
+}
+
+// Appends the verdict, and what it rests on.
+fn push_verdict(alloc: Global, out: &mut Vec<u8>, told: &RunsTold) -> Result<(), AllocError> {
+    let bad = bad_runs(told.classes.as_slice());
+    if bad != 0 {
+        out.extend_from_slice(b"bad: ")?;
+        push_number(alloc, out, bad)?;
+        out.extend_from_slice(b" of ")?;
+        push_many(alloc, out, " run", " runs", told.runs)?;
+        return out.extend_from_slice(b"\n");
+    }
+    out.extend_from_slice(b"good: ")?;
+    push_many(alloc, out, " run", " runs", told.runs)?;
+    push_orders(alloc, out, told.orders)?;
+    out.extend_from_slice(b"; not all schedules (verify looks at all)\n")
+}
+
 // Appends by which seeds the runs were made.
 fn push_seeds(alloc: Global, out: &mut Vec<u8>, told: &RunsTold) -> Result<(), AllocError> {
     match told.last {
@@ -241,7 +369,8 @@ fn push_seeds(alloc: Global, out: &mut Vec<u8>, told: &RunsTold) -> Result<(), A
 }
 
 /// Appends what is told of many runs of the script that has this name and forms: how many runs, and the classes of those that ended alike, each
-/// with the threads that are left in its first run or ended at a fault in it.
+/// with the threads that are left in its first run or ended at a fault in it; and last the verdict, and what it rests on. Where a schedule of each
+/// class is saved in a file whose name begins so, the file is named below its class.
 ///
 /// # Errors
 /// Out of memory.
@@ -251,18 +380,17 @@ pub fn write_runs(
     name: &str,
     forms: &[Sexpr],
     told: &RunsTold,
+    save: Option<&str>,
 ) -> Result<(), AllocError> {
     push_many(alloc, out, " run", " runs", told.runs)?;
     out.extend_from_slice(b" of ")?;
     out.extend_from_slice(name.as_bytes())?;
     push_seeds(alloc, out, told)?;
+    out.extend_from_slice(b",")?;
+    push_orders(alloc, out, told.orders)?;
     out.extend_from_slice(b"\n")?;
-    let classes = told.classes.as_slice();
-    let widths = widths_of(alloc, classes)?;
-    for class in classes {
-        push_class(alloc, out, forms, widths, class)?;
-    }
-    Ok(())
+    push_classes(alloc, out, forms, told.classes.as_slice(), save)?;
+    push_verdict(alloc, out, told)
 }
 
 // How wide the column of ends is: as wide as what is widest in it.

@@ -52,7 +52,8 @@ got_last [] f = refl
 got_last (g ∷ frames) f = got_last frames f
 
 -- the frame of one call more
-each_by : (places : List (List Place)) (p : List (PlainItem ℕ)) (calls : List PlainHeld) (frames : List Frame) (i j : ℕ) (f : Frame) → length frames ≡ i → ((n : ℕ) → n < i → IsFrame places p (slice_get calls n) (slice_get frames n)) →
+each_by : (places : List (List Place)) (p : List (PlainItem ℕ)) (calls : List PlainHeld) (frames : List Frame) (i j : ℕ) (f : Frame) → length frames ≡ i
+    → ((n : ℕ) → n < i → IsFrame places p (slice_get calls n) (slice_get frames n)) →
     IsFrame places p (slice_get calls i) (Some f) → (j < i) ⊎ (j ≡ i) → IsFrame places p (slice_get calls j) (slice_get (frames ++ f ∷ []) j)
 each_by places p calls frames i j f count each is (inl h) = subst (IsFrame places p (slice_get calls j)) (got_below frames f j (omega (arith, h, count))) (each j h)
 each_by places p calls frames i j f count each is (inr e) =
@@ -60,7 +61,8 @@ each_by places p calls frames i j f count each is (inr e) =
     let at : Some f ≡ slice_get (frames ++ f ∷ []) j = got_last frames f ∙ ap (slice_get (frames ++ f ∷ [])) (count ∙ sym e) in
     subst (IsFrame places p (slice_get calls j)) at here
 
-pub each_more : (places : List (List Place)) (p : List (PlainItem ℕ)) (calls : List PlainHeld) (frames : List Frame) (i : ℕ) (f : Frame) (h : PlainHeld) → i < length calls → h ≡ get_or calls i h → length frames ≡ i →
+pub each_more : (places : List (List Place)) (p : List (PlainItem ℕ)) (calls : List PlainHeld) (frames : List Frame) (i : ℕ) (f : Frame) (h : PlainHeld) → i < length calls
+    → h ≡ get_or calls i h → length frames ≡ i →
     ((n : ℕ) → n < i → IsFrame places p (slice_get calls n) (slice_get frames n)) → IsFrame places p (Some h) (Some f) →
     (j : ℕ) → j < i + 1 → IsFrame places p (slice_get calls j) (slice_get (frames ++ f ∷ []) j)
 each_more places p calls frames i f h within at count each is j below =

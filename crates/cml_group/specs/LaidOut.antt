@@ -9,6 +9,10 @@ use Rattle.cml_value.specs.declared.number.NackId.{NackId}
 abbrev pub max_leaves : ℕ
 max_leaves = 256
 
+-- the most choices that are kept to be found again
+abbrev pub most_kept : ℕ
+most_kept = 8
+
 -- at most this many leaves, and within the limits of depth and of nodes
 pub record IsWithinLimits (g : PlainGroup) : Type 0 where
   pub few_leaves : leaf_count g ≤ max_leaves

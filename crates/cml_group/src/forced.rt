@@ -20,9 +20,9 @@ struct Choice {
 }
 
 impl Model for Choice {
-    ghost use Rattle.std.specs.Prelude.{◌≡◌, true};
-    ghost use Rattle.cml_value.specs.{Group.{PlainGroup}, GroupCodes.{group_code}};
-    ghost use Rattle.cml_group.specs.LaidOut.{is_bare_choice};
+    ghost use Rattle.std.specs.Prelude.{◌≡◌, ◌≤◌, true};
+    ghost use Rattle.cml_value.specs.{Group.{PlainGroup, group_nodes}, GroupCodes.{group_code}};
+    ghost use Rattle.cml_group.specs.LaidOut.{is_bare_choice, max_leaves};
 
     ghost Value = { PlainGroup };
 
@@ -30,16 +30,30 @@ impl Model for Choice {
 
     ghost view = { λ a. a.group };
 
-    ghost invariant = { λ a. is_bare_choice a.group ≡ true };
+    ghost invariant = { λ a. (is_bare_choice a.group ≡ true) × (group_nodes a.group ≤ max_leaves) };
 }
 
-/// The choices that were forced last, at most eight: each is one among at most 256 base events, none of which carries a value. A choice
+/// The choices that were forced last, at most eight: each has at most 256 nodes, and none of its base events carries a value. A choice
 /// that is forced again is shared ([`Forcing::start_again`](crate::Forcing::start_again)).
 #[derive(Drop)]
 pub struct Forced {
     choices: Vec<Choice>,
     // the place of the one that goes next, once there are so many
     oldest: usize,
+}
+
+impl Model for Forced {
+    ghost use Rattle.std.specs.{Prelude.{◌≤◌, List, length}, Coded.{coded_list}};
+    ghost use Rattle.cml_value.specs.{Group.{PlainGroup}, GroupCodes.{group_code}};
+    ghost use Rattle.cml_group.specs.LaidOut.{most_kept};
+
+    ghost Value = { List PlainGroup };
+
+    ghost coded = { coded_list group_code };
+
+    ghost view = { λ f. f.choices.items };
+
+    ghost invariant = { λ f. length f.choices.items ≤ most_kept };
 }
 
 // Whether the two base events are the same.
@@ -110,7 +124,7 @@ impl Choice {
 impl Forced {
     /// None yet. It takes no memory.
     pub fn new(alloc: Global) -> Forced
-        ensures { result.choices.items ≡ [] }
+        ensures { result ≡ [] }
     {
         Forced {
             choices: Vec::new(alloc),

@@ -1,5 +1,5 @@
 -- What is replied behind what was written before, and where the store stayed as it was.
-use Rattle.std.proofs.Common.{◌≡◌, ◌∙◌, ◌⊎◌, ℕ, List, [], ◌∷◌, Option, Result, Ok, Err, IfOk, IfErr, Vec, inl, inr, refl, sym, ap, subst}
+use Rattle.std.proofs.Common.{◌≡◌, ◌∙◌, ◌⊎◌, ℕ, List, [], Option, Result, Ok, Err, IfOk, IfErr, Vec, inl, inr, refl, sym, ap, subst}
 use Rattle.std.proofs.Math.Path.{fun_ext}
 use Rattle.std.specs.declared.alloc.Global.{Global}
 use Rattle.cml_stream.specs.declared.counts.Counting.{Counting}

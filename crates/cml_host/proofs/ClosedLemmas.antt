@@ -1,6 +1,5 @@
 -- Runs that were closed, and what a schedule led to.
 use Rattle.std.proofs.Common.{◌≡◌, ◌∙◌, ◌&&◌, ◌||◌, ◌++◌, ◌∷◌, ℕ, Bool, true, false, List, [], Option, Some, None, Vec, is_some, map, Result, Ok, Err, IfOk, IfErr, ap, inl, inr, refl, subst, sym}
-use Rattle.std.proofs.Math.Path.{fun_ext}
 use Rattle.std.specs.declared.alloc.Global.{Global}
 use Rattle.cml_check.specs.Sizes.{size_of}
 use Rattle.cml_check.specs.Syntax.{PlainItem}
@@ -12,10 +11,10 @@ use Rattle.cml_arguments.specs.declared.ReplayOptions.{ReplayOptions}
 use Rattle.cml_host.specs.Behind.{RepliesAfter}
 use Rattle.cml_host.specs.Closed.{PlainAsked, IsClosed, IsClosing, IsHubAt, MaySay, closing_status, plain_asked, schedule_file}
 use Rattle.cml_host.specs.Replaying.{IsHubOf, IsReplayReply, ReplayTold, ScheduleOutcome, ScriptReplayed, replay_asked}
-use Rattle.cml_host.specs.Replies.{File, IsCarriedOut, Moment, Passage, Replies, behind, broken, file, plain_file, plain_of, plain_refusal, plain_reply, since, upto}
+use Rattle.cml_host.specs.Replies.{File, IsCarriedOut, Moment, Passage, behind, broken, file, plain_file, plain_of, plain_refusal, plain_reply, since, upto}
 use Rattle.cml_host.specs.Servers.{first_unknown, server_numbers, server_names}
 use Rattle.cml_host.specs.Scripts.{PlainScript}
-use Rattle.cml_host.specs.Stores.{Content, Shelf, IsUnchanged}
+use Rattle.cml_host.specs.Stores.{Content, Shelf}
 use Rattle.cml_host.specs.Told.{IsRunOf, AllReported, AreCut, AreTold, whole_output}
 use Rattle.cml_host.specs.declared.close.Asked.{Asked}
 use Rattle.cml_host.specs.declared.close.Closing.{Closing}
@@ -160,14 +159,7 @@ replayed explains s options servers asked p content output errors store status k
           (subst (λ (q : List (PlainItem ℕ)). ScheduleOutcome asked q options.watch options.schedule.now content output errors store status) program ran),
     )
 
--- ---- a store that was read first
-
-same_store : (old mid : List ℕ → Content) → IsUnchanged old mid → mid ≡ old
-same_store old mid same = fun_ext (λ name. same name)
-
--- what was done with the store as it was read was done with it as it was before
-pub store_behind : (P : Shelf → Type 0) (old mid new : List ℕ → Content) → IsUnchanged old mid → P (record { before = mid; after = new }) → P (record { before = old; after = new })
-store_behind P old mid new same ran = subst (λ (b : List ℕ → Content). P (record { before = b; after = new })) (same_store old mid same) ran
+-- ---- a hub at its start
 
 pub starts_itself : (p : List (PlainItem ℕ)) (budget : ℕ) (watch : Option ℕ) (h : Kept) → IsAtStart p budget watch h → IsAtStart h.course.program budget watch h
 starts_itself p budget watch h begins =

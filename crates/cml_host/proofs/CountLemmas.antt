@@ -23,15 +23,16 @@ some_gives : {T : Type 0} (o : Option T) (P : T → Type 0) (Q : Type 0) → ((x
 some_gives None P Q from is = absurd is
 some_gives (Some x) P Q from is = from x is
 
-run_counts : (options : RunOptions) (given : _) → IsRun given options → IsWorkerCount options.workers × IsBudget options.steps × IsWatch options.watch
+run_counts : (options : RunOptions) (given : _) → IsRun given options → IsWorkerCount options.workers × IsBudget options.steps × IsWatch options.watch × IfSome options.priority words.IsDepth
 run_counts options given is = (
   (is.counts.0.0, is.counts.0.1),
   (is.counts.1.0, is.counts.1.1),
   watched options.watch is.counts.2,
+  is.counts.3,
 )
 
 counted : (given : List (List ℕ)) (options : RunOptions) → IsAnswer given (answer.Task (Run options)) →
-    IsWorkerCount options.workers × IsBudget options.steps × IsWatch options.watch
+    IsWorkerCount options.workers × IsBudget options.steps × IsWatch options.watch × IfSome options.priority words.IsDepth
 counted given options is =
     some_gives _ (λ named. Names named (Run options)) _ (λ named names. run_counts options named.1 names.1) is.0.1
 
@@ -56,12 +57,18 @@ explore_depth : (given : List (List ℕ)) (options : ExploreOptions) → IsAnswe
 explore_depth given options is =
     some_gives _ (λ named. Names named (Explore options)) _ (λ named names. explore_depths options named.1 names.1) is.0.1
 
+-- options that are not at odds in one way, or in another, are not in the other
+not_other : (one other : List ℕ → Type 0) → ((told : List ℕ) → words.OrElse one other told → ⊥) → (told : List ℕ) → other told → ⊥
+not_other one other none told odds = none told (inr (λ text first. none text (inl first), odds))
+
 -- there is a seed for each run
 explore_seeds : (given : List (List ℕ)) (options : ExploreOptions) → IsAnswer given (answer.Task (Explore options)) → options.seed + options.runs ≤ 2 ^ 64
 explore_seeds given options is = go (cases_lt (2 ^ 64) (options.seed + options.runs))
   where
     go : (2 ^ 64 < options.seed + options.runs) ⊎ (options.seed + options.runs ≤ 2 ^ 64) → options.seed + options.runs ≤ 2 ^ 64
-    go (inl past) = absurd (is.1 (codes "--runs goes past the last seed, 18446744073709551615\n") (inr (inr (inl (past, refl)))))
+    go (inl past) =
+        let told = codes "--runs goes past the last seed, 18446744073709551615\n" in
+        absurd (not_other _ _ (not_other _ _ (not_other _ _ (not_other _ _ is.1))) told (inl (past, refl)))
     go (inr within) = within
 
 -- the number of states lies within its bounds

@@ -1,20 +1,32 @@
 -- What was shown of many runs, and what is saved of them, one thing after another.
-use Rattle.std.proofs.Common.{◌≡◌, ◌∙◌, ◌+◌, ◌<◌, ◌++◌, ◌∷◌, [], ℕ, suc, Bool, true, false, List, Option, Some, get_or, map, take, length, refl, sym, ap, add-one, add-zero, arith}
-use Rattle.std.specs.Prelude.{slice_get}
+use Rattle.std.proofs.Common.{◌≡◌, ◌∙◌, ◌+◌, ◌<◌, ◌≤◌, ◌++◌, ◌∷◌, [], ℕ, suc, Bool, true, false, List, Option, Some, get_or, map, take, drop}
+use Rattle.std.proofs.Common.{length, refl, sym, ap, add-one, add-zero, append-nil, append_assoc, arith}
+use Rattle.std.specs.Prelude.{Result, Ok, Err, IfOk, slice_get}
+use Rattle.std.specs.List.{All}
+use Rattle.std.proofs.lemmas.List.{drop_all}
+use Rattle.std.proofs.lemmas.List.Elements.{All-weaker}
+use Rattle.std.proofs.lemmas.Option.{slice_get_within}
 use Rattle.std.specs.Fmt.{decimal}
 use Rattle.std.specs.Option.{option_map_or}
 use Rattle.std.proofs.lemmas.List.{length-take-le, map-append}
-use Rattle.std.proofs.Math.Seq.{take-suc}
+use Rattle.std.proofs.Math.Seq.{drop-cons, take-suc}
 use Rattle.std.proofs.KnownBytes.{Appends-nil, Appends-trans}
 use Rattle.cml_check.specs.Sizes.{size_of}
 use Rattle.cml_check.specs.Syntax.{Name, PlainItem}
 use Rattle.cml_explore.specs.Classes.{PlainClass}
+use Rattle.cml_explore.specs.Explored.{PlainExplored}
+use Rattle.cml_explore.specs.Told.{IsClassTold, IsToldOfRuns}
+use Rattle.cml_explore.specs.declared.explored.Asked.{Asked}
+use Rattle.cml_explore.specs.declared.told.ClassTold.{ClassTold}
+use Rattle.cml_explore.specs.declared.told.RunsTold.{RunsTold}
+use Rattle.cml_phrase.specs.declared.place.Place.{Place}
 use Rattle.cml_schedule.specs.Written.{schedule_text}
 use Rattle.cml_schedule.specs.declared.item.Item.{Item}
 use Rattle.cml_stream.specs.Counts.{counted}
 use Rattle.cml_stream.specs.Streams.{stream}
-use Rattle.cml_arguments.specs.Words.{saved_name}
-use Rattle.cml_host.specs.Exploring.{MayShow, ShowsMarks, StopsShowing, file_of, files_from, shortest_of}
+use Rattle.cml_arguments.specs.Words.{saved_name, start_of}
+use Rattle.cml_host.specs.Exploring.{MayShow, ShowsMarks, StopsShowing, and_one, file_of, file_told, files_behind, files_from, seen_of, shortest_of}
+use Rattle.cml_host.specs.declared.explore.Seen.{Seen}
 use Rattle.cml_host.specs.Narrated.{IsCutBy, Writes}
 use Rattle.cml_host.specs.Replies.{File, Moment, file, plain_file}
 use Rattle.cml_host.specs.declared.explain.Halt.{Halt}
@@ -81,3 +93,58 @@ file_next start budget p classes numbers i items c files f all within class is s
     ∙ ap (λ (k : ℕ). files_from start budget p classes 1 (take i numbers) ++ files_from start budget p classes k (n ∷ [])) place) in
     ap (map plain_file) more ∙ (map-append plain_file _ (f ∷ []) ∙ (ap (λ (fs : List File). fs ++ plain_file f ∷ []) so_far
     ∙ (ap (λ (g : File). files_from start budget p classes 1 (take i numbers) ++ g ∷ []) this ∙ sym out)))
+
+-- ---- what is saved of classes that were told
+
+same_file : (budget : ℕ) (p : List (PlainItem ℕ)) (a b : Name) (m n : ℕ) (xs ys : List Item) → a ≡ b → m ≡ n → xs ≡ ys
+    → file true (saved_name a (decimal m)) (schedule_text budget (size_of p) xs) ≡ file true (saved_name b (decimal n)) (schedule_text budget (size_of p) ys)
+same_file budget p a b m n xs ys by_name by_place by_items = cc
+
+-- the file of a class that was told
+pub told_one : {E : Type 0} (start : Name) (budget : ℕ) (p : List (PlainItem ℕ)) (classes : List PlainClass) (seen : Seen) (told : ClassTold) (own : Name) (place : ℕ)
+    (items : List Item) (c : PlainClass) (r : Result code.File E) → own ≡ start_of start told.well → place ≡ seen_of seen told.well → slice_get classes told.number ≡ Some c
+    → items ≡ c.summary.shortest → IfOk r (λ f. plain_file f ≡ file true (saved_name own (decimal place)) (schedule_text budget (size_of p) items))
+    → IfOk r (λ f. plain_file f ≡ file_told start budget p classes seen told)
+told_one start budget p classes seen told own place items c (Ok f) by_name by_place there is made =
+    let shortest : items ≡ shortest_of classes told.number = is ∙ sym (ap (λ (o : Option PlainClass). option_map_or (λ c. c.summary.shortest) o []) there) in
+    made ∙ same_file budget p own (start_of start told.well) place (seen_of seen told.well) items (shortest_of classes told.number) by_name by_place shortest
+told_one start budget p classes seen told own place items c (Err e) by_name by_place there is made = tt
+
+files_on : (start : Name) (budget : ℕ) (p : List (PlainItem ℕ)) (classes : List PlainClass) (seen : Seen) (told : List ClassTold) (i : ℕ) (c d : ClassTold) → i < length told → c ≡ get_or told i d
+    → files_behind start budget p classes seen (drop i told)
+    ≡ file_told start budget p classes (and_one seen c.well) c ∷ files_behind start budget p classes (and_one seen c.well) (drop (i + 1) told)
+files_on start budget p classes seen told i c d within is =
+    let rest : ClassTold → ℕ → List File = λ x n.
+    file_told start budget p classes (and_one seen x.well) x ∷ files_behind start budget p classes (and_one seen x.well) (drop n told) in
+    ap (files_behind start budget p classes seen) (drop-cons told i d within) ∙ (ap (λ (x : ClassTold). rest x (suc i)) (sym is) ∙ ap (rest c) (sym (add-one i)))
+
+-- one file more
+pub told_next : (start : Name) (budget : ℕ) (p : List (PlainItem ℕ)) (classes : List PlainClass) (seen : Seen) (told : List ClassTold) (i : ℕ) (c d : ClassTold)
+    (files : List code.File) (f : code.File) (all : List code.File) (whole : List File) → i < length told → c ≡ get_or told i d
+    → plain_file f ≡ file_told start budget p classes (and_one seen c.well) c → all ≡ files ++ f ∷ []
+    → map plain_file files ++ files_behind start budget p classes seen (drop i told) ≡ whole
+    → map plain_file all ++ files_behind start budget p classes (and_one seen c.well) (drop (i + 1) told) ≡ whole
+told_next start budget p classes seen told i c d files f all whole within is made more so_far =
+    let rest : List File = files_behind start budget p classes (and_one seen c.well) (drop (i + 1) told) in
+    ap (λ (xs : List code.File). map plain_file xs ++ rest) more ∙ (ap (λ (xs : List File). xs ++ rest) (map-append plain_file files (f ∷ []))
+    ∙ (append_assoc (map plain_file files) (plain_file f ∷ []) rest ∙ (ap (λ (g : File). map plain_file files ++ g ∷ rest) made
+    ∙ (ap (λ (xs : List File). map plain_file files ++ xs) (sym (files_on start budget p classes seen told i c d within is)) ∙ so_far))))
+
+-- no more of them
+pub told_all : (start : Name) (budget : ℕ) (p : List (PlainItem ℕ)) (classes : List PlainClass) (seen : Seen) (told : List ClassTold) (i : ℕ) (files : List code.File) (whole : List File)
+    → length told ≤ i → map plain_file files ++ files_behind start budget p classes seen (drop i told) ≡ whole → map plain_file files ≡ whole
+told_all start budget p classes seen told i files whole past so_far =
+    sym (append-nil (map plain_file files))
+    ∙ (ap (λ (xs : List File). map plain_file files ++ xs) (sym (ap (files_behind start budget p classes seen) (drop_all i told past))) ∙ so_far)
+
+-- one class more
+pub seen_few : (seen : Seen) (well : Bool) (i : ℕ) → seen.bad ≤ i → seen.good ≤ i → ((and_one seen well).bad ≤ i + 1) × ((and_one seen well).good ≤ i + 1)
+seen_few seen true i bad good = (omega (arith, bad), omega (arith, good))
+seen_few seen false i bad good = (omega (arith, bad), omega (arith, good))
+
+-- the numbers of the classes that were told are theirs
+pub told_below : (places : List (List Place)) (p : List (PlainItem ℕ)) (asked : Asked) (made : PlainExplored) (told : RunsTold) → IsToldOfRuns places p asked made told
+    → All (λ (c : ClassTold). c.number < length made.classes) told.classes.items
+told_below places p asked made told is =
+    All-weaker (IsClassTold places p asked made.classes) (λ (c : ClassTold). c.number < length made.classes) (λ c own. slice_get_within made.classes c.number own.class own.there)
+    told.classes.items is.classes_are.each

@@ -19,3 +19,7 @@ mod DrawnLemmas
 mod ExploringLemmas
 mod TalkLemmas
 mod SteppedLemmas
+mod OutcomeLemmas
+mod FoundLemmas
+mod VerifyLemmas
+mod LawLemmas

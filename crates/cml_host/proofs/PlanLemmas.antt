@@ -1,5 +1,5 @@
 -- What is said of the first bytes of a schedule is said of the whole.
-use Rattle.std.proofs.Common.{◌≡◌, ◌∙◌, ◌⊎◌, ◌+◌, ◌<◌, ◌≤◌, ℕ, Bool, List, take, length, inl, inr, refl, subst, sym, arith}
+use Rattle.std.proofs.Common.{◌≡◌, ◌∙◌, ◌⊎◌, ◌+◌, ◌<◌, ℕ, Bool, List, take, length, inl, inr, refl, subst, sym, arith}
 use Rattle.cml_schedule.specs.Plans.{PlainPlan}
 use Rattle.cml_schedule.specs.Reading.{schedule_limit}
 use Rattle.cml_host.specs.Plans.{IsPlan, IsNoSchedule, IsSchedule}

@@ -1,5 +1,5 @@
 -- What a command did, by what it told of the hub that it had.
-use Rattle.std.proofs.Common.{◌≡◌, ◌∙◌, ℕ, Bool, List, [], ◌++◌, true, Option, Some, None, Result, Ok, Err, IfOk, IfErr, ap, inl, inr, refl, subst, sym}
+use Rattle.std.proofs.Common.{◌≡◌, ◌∙◌, ◌⊎◌, ℕ, Bool, List, [], ◌++◌, true, Option, Some, None, Result, Ok, Err, IfOk, IfErr, ap, inl, inr, refl, subst, sym}
 use Rattle.cml_check.specs.Syntax.{PlainItem}
 use Rattle.cml_hub.specs.Choices.{seeded}
 use Rattle.cml_host.specs.Chosen.{by_first, by_words}
@@ -21,9 +21,11 @@ use Rattle.cml_host.specs.declared.workers.Cause.{Cause}
 use Rattle.cml_host.specs.declared.workers.Cause.TheVariants as cause
 use Rattle.cml_host.specs.declared.workers.Stopped.{Stopped}
 use Rattle.cml_host.specs.Closed.{PlainAsked}
-use Rattle.cml_host.specs.Replies.{IsCarriedOut, Moment, Passage, PlainReply, behind, plain_of, plain_refusal, plain_reply, since, upto}
+use Rattle.cml_host.specs.Replies.{IsCarriedOut, Moment, Passage, PlainReply, behind, plain_of, plain_refusal, plain_reply, runs_out, since, upto}
 use Rattle.cml_host.specs.Running.{AreToldBy, BegunOutcome, HasEnded, IsChosen, IsEnded, IsEndReply, IsRunBy, IsRunReply, IsStopped, PlainSaving, Plays, PlaysChosen, ProgramOutcome}
-use Rattle.cml_host.specs.Running.{ScriptOutcome, failed_by, run_asked, saving_of, stop_reply}
+use Rattle.cml_host.specs.Running.{RunsSo, ScriptOutcome, SomehowOutcome, failed_by, run_asked, saving_of, stop_reply}
+use Rattle.cml_host.specs.Orders.{order_said}
+use Rattle.cml_seed.specs.declared.order.Order.{Order}
 use Rattle.cml_host.specs.Servers.{first_unknown, server_numbers, server_names}
 use Rattle.cml_host.specs.Scripts.{PlainScript}
 use Rattle.cml_host.specs.Stores.{Shelf}
@@ -126,15 +128,29 @@ stopped_ran asked saving p options begun stopped output errors mid store status 
 -- the script was run, with the numbers of its servers
 pub opened_ran : (explains : Bool) (s : PlainScript) (options : RunOptions) (servers : List ℕ) (asked : PlainAsked) (saving : PlainSaving) (p : List (PlainItem ℕ)) (output errors : Passage)
     (store : Shelf) (status : ℕ) → first_unknown s (server_names options.end) ≡ None → servers ≡ server_numbers s (server_names options.end) → p ≡ s.program →
-    asked ≡ record { explains = explains; strict = options.end.strict; servers = servers } → saving ≡ saving_of options → BegunOutcome asked saving p options output errors store status →
+    asked ≡ record { explains = explains; strict = options.end.strict; servers = servers } → saving ≡ saving_of options → SomehowOutcome asked saving p options output errors store status →
     ScriptOutcome explains s options output errors store status
 opened_ran explains s options servers asked saving p output errors store status known numbered program same saves (inl ran) =
+    let order : Option Order = order_said options.turns options.priority in
     let asks : asked ≡ run_asked options explains s = same ∙ ap (λ (ns : List ℕ). record { explains = explains; strict = options.end.strict; servers = ns }) numbered in
     inl (
       known,
-      subst (λ (a : PlainAsked). ProgramOutcome a (saving_of options) s.program options output errors store status) asks
-          (subst (λ (v : PlainSaving). ProgramOutcome asked v s.program options output errors store status) saves
-          (subst (λ (q : List (PlainItem ℕ)). ProgramOutcome asked saving q options output errors store status) program ran)),
+      subst (λ (a : PlainAsked). RunsSo order a (saving_of options) s.program options output errors store status) asks
+          (subst (λ (v : PlainSaving). RunsSo order asked v s.program options output errors store status) saves
+          (subst (λ (q : List (PlainItem ℕ)). RunsSo order asked saving q options output errors store status) program ran)),
     )
 opened_ran explains s options servers asked saving p output errors store status known numbered program same saves (inr (reply, memory, carried)) =
     inr (reply, inr memory, carried)
+
+-- a run in an order that is said, as it was told
+pub ordered_told : (asked : PlainAsked) (saving : PlainSaving) (h : Kept) (made : Result Reply Refusal) → IfOk made (λ r. IsEnded asked saving h (behind h.course.output (plain_of r)))
+    → IfErr made (λ why. why ≡ Memory) → IsEnded asked saving h (plain_reply h.course.output made) ⊎ (plain_reply h.course.output made ≡ runs_out h.course.output)
+ordered_told asked saving h (Ok r) ok err = inl ok
+ordered_told asked saving h (Err why) ok err = inr (ap (plain_refusal h.course.output) err)
+
+-- a run where no order is said
+pub somehow_so : (asked : PlainAsked) (saving : PlainSaving) (p : List (PlainItem ℕ)) (options : RunOptions) (output errors : Passage) (store : Shelf) (status : ℕ)
+    → order_said options.turns options.priority ≡ None → BegunOutcome asked saving p options output errors store status → SomehowOutcome asked saving p options output errors store status
+somehow_so asked saving p options output errors store status said (inl ran) =
+    inl (subst (λ (o : Option Order). RunsSo o asked saving p options output errors store status) (sym said) ran)
+somehow_so asked saving p options output errors store status said (inr memory) = inr memory

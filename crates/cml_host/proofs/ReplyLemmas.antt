@@ -1,17 +1,14 @@
 -- What was written of texts, one after another, what was saved of files, and how a reply was carried out by that.
-use Rattle.std.proofs.Common.{◌≡◌, ◌∙◌, ◌+◌, ◌<◌, ◌==◌, ◌++◌, ◌∷◌, [], ℕ, zero, suc, Bool, true, false, List, Option, Result, Ok}
+use Rattle.std.proofs.Common.{◌≡◌, ◌∙◌, ◌+◌, ◌<◌, ◌==◌, ◌++◌, ◌∷◌, [], ℕ, zero, suc, Bool, true, false, List, Result, Ok}
 use Rattle.std.proofs.Common.{Err, OnOk, OnErr, map, take, drop, drop-cons, get_or, length, string_bytes, arith, refl, sym, ap, subst, inl, inr, add-one, true≢false}
 use Rattle.std.proofs.KnownBytes.{Appends-kept, Appends-nil, Appends-trans, Keeps-trans}
 use Rattle.std.proofs.Math.Seq.{take-suc}
 use Rattle.std.proofs.lemmas.List.{take-append-drop}
 use Rattle.cml_stream.specs.Counts.{counted}
 use Rattle.cml_stream.specs.Streams.{stream, Takes}
-use Rattle.cml_host.specs.Refused.{Fault, RefusesAs}
 use Rattle.cml_host.specs.Replies.{AreSaved, IsCutShort, File, GivesUp, HasSavedSome, IsCarriedOut, IsKept, IsSaid, EndsWriting}
-use Rattle.cml_host.specs.Replies.{IsWritten, Moment, Passage, PlainReply, RefusalOf, Replies, TellsUnsaved, plain_file, plain_of, plain_refusal}
+use Rattle.cml_host.specs.Replies.{IsWritten, Moment, Passage, PlainReply, TellsUnsaved, plain_file, plain_of}
 use Rattle.cml_host.specs.Stores.{Content, Shelf, IsReplacedBy, IsSaved, IsUnchanged}
-use Rattle.cml_host.specs.declared.refusal.Refusal.{Refusal}
-use Rattle.cml_host.specs.declared.refusal.Refusal.TheVariants.{Told, Line, Memory}
 use Rattle.cml_host.specs.declared.reply.File as code
 use Rattle.cml_host.specs.declared.reply.Reply.{Reply}
 use Rattle.cml_host.proofs.SayLemmas.{start_taken}
@@ -138,26 +135,7 @@ pub kept_some : (reply : Reply) (i : ℕ) (f : code.File) (errors : Passage) (st
     HasSavedSome (map plain_file reply.files.items) i store.before store.after → TellsUnsaved (plain_file f) errors → status ≡ 1 → IsKept (plain_of reply) errors store status
 kept_some reply i f errors store status at saved told is = inr ((_, plain_file f, _, split_at reply.files.items i f saved.0 at, saved.1, told), is)
 
--- it was saved, though first something was done that saved nothing
-saved_from : (files : List File) (old mid new : List ℕ → Content) → IsUnchanged old mid → AreSaved files mid new → AreSaved files old new
-saved_from [] old mid new same all = λ name. all name ∙ same name
-saved_from (f ∷ files) old mid new same all = (
-  all.0,
-  record {
-    saved = subst (λ (content : Content). IsReplacedBy content (all.0 f.name) f.bytes) (same f.name) all.1.saved;
-    others = λ other apart. all.1.others other apart ∙ same other;
-  },
-  all.2,
-)
-
 -- ---- how a reply was carried out
-
-pub from_kept : (reply : PlainReply) (output errors : Passage) (old mid new : List ℕ → Content) (status : ℕ) → IsUnchanged old mid →
-    IsCarriedOut reply output errors (record { before = mid; after = new }) status → IsCarriedOut reply output errors (record { before = old; after = new }) status
-from_kept reply output errors old mid new status same (inl all) = inl (all.0, saved_from reply.files old mid new same all.1, all.2, all.3)
-from_kept reply output errors old mid new status same (inr (inl (wrote, (done, file, more, split, saved, told), is))) =
-    inr (inl (wrote, (done, file, more, split, saved_from done old mid new same saved, told), is))
-from_kept reply output errors old mid new status same (inr (inr broke)) = inr (inr (broke.0, λ name. broke.1 name ∙ same name, broke.2, broke.3))
 
 -- the output was written, and the rest was done
 pub carried_on : (reply : PlainReply) (output errors : Passage) (store : Shelf) (status : ℕ) → IsWritten reply.output output → IsKept reply errors store status →
@@ -171,10 +149,3 @@ pub gave_up : (reply : PlainReply) (output errors : Passage) (store : Shelf) (st
 gave_up reply output errors store status none same (inl said) =
     inl (said.0, subst (λ (fs : List File). AreSaved fs store.before store.after) (sym none) same, said.1, said.2)
 gave_up reply output errors store status none same (inr broke) = inr (inr (broke.0, same, broke.1, broke.2))
-
--- why a command goes no further was told
-pub refused : (P : Fault) (why : Refusal) (output errors : Passage) (store : Shelf) (status : ℕ) → RefusesAs P why → IsCarriedOut (plain_refusal [] why) output errors store status →
-    Replies (RefusalOf P) output errors store status
-refused P (Told told is) output errors store status wrong carried = (_, inl (told.items, is, wrong, refl), carried)
-refused P (Line words is) output errors store status wrong carried = (_, inl (words.now, is, wrong, refl), carried)
-refused P Memory output errors store status any carried = (_, inr refl, carried)

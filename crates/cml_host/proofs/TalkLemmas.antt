@@ -253,5 +253,6 @@ pub turn_on : (t s : List (List Place)) (old : Kept) (begun left : List ℕ) (ov
 turn_on t s old begun left over new input output same is taken =
     subst (λ (b : Bool). IsTurnTaken s old begun b left new input output) is (subst (λ (u : List (List Place)). IsTurnTaken u old begun over left new input output) same taken)
 
-pub turn_lost : (t s : List (List Place)) (old : Kept) (begun : List ℕ) (input output : Stream) (why : TraceFault) → t ≡ s → IsTurnLost t old begun input output why → IsTurnLost s old begun input output why
+pub turn_lost : (t s : List (List Place)) (old : Kept) (begun : List ℕ) (input output : Stream)
+    (why : TraceFault) → t ≡ s → IsTurnLost t old begun input output why → IsTurnLost s old begun input output why
 turn_lost t s old begun input output why same lost = subst (λ (u : List (List Place)). IsTurnLost u old begun input output why) same lost

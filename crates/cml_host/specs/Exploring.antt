@@ -1,28 +1,32 @@
 -- The command `explore`: what is told of many runs of a script, what is shown meanwhile, and what is saved of them.
-use Rattle.std.specs.Prelude.{◌≡◌, ◌⊎◌, ℕ, suc, ◌*◌, ◌/◌, Bool, true, false, if◌then◌else◌, List, [], ◌∷◌, map, Option, Some, None, option_and_then, option_map, slice_get}
+use Rattle.std.specs.Prelude.{◌≡◌, ◌⊎◌, ℕ, suc, ◌+◌, ◌*◌, ◌/◌, Bool, true, false, if◌then◌else◌, List, [], ◌∷◌, map, Option, Some, None, option_map, slice_get}
+use Rattle.std.specs.List.{flat_map}
 use Rattle.std.specs.Fmt.{decimal}
 use Rattle.std.specs.Option.{option_map_or}
 use Rattle.cml_check.specs.Sizes.{size_of}
 use Rattle.cml_check.specs.Syntax.{Name, PlainItem}
 use Rattle.cml_explore.specs.Classes.{PlainClass}
 use Rattle.cml_explore.specs.Explored.{PlainExplored, IsExplored}
-use Rattle.cml_explore.specs.Ranks.{AreInRank}
+use Rattle.cml_explore.specs.Told.{IsToldOfRuns}
 use Rattle.cml_explore.specs.declared.explored.Asked.{Asked}
 use Rattle.cml_explore.specs.declared.explored.Until.{Until}
-use Rattle.cml_seed.specs.declared.order.Order.{Order}
-use Rattle.cml_seed.specs.declared.order.Order.TheVariants as by
+use Rattle.cml_explore.specs.declared.told.ClassTold.{ClassTold}
+use Rattle.cml_explore.specs.declared.told.RunsTold.{RunsTold}
+use Rattle.cml_phrase.specs.Spots.{all_places}
 use Rattle.cml_explore.specs.declared.explored.Until.TheVariants as stop
 use Rattle.cml_schedule.specs.Written.{schedule_text}
 use Rattle.cml_schedule.specs.declared.item.Item.{Item}
 use Rattle.cml_stream.specs.Counts.{counted}
 use Rattle.cml_stream.specs.Streams.{Stream, Takes}
-use Rattle.cml_arguments.specs.Words.{saved_name, until_named}
+use Rattle.cml_arguments.specs.Words.{saved_name, start_of, until_named}
 use Rattle.cml_arguments.specs.declared.ExploreOptions.{ExploreOptions}
 use Rattle.cml_arguments.specs.declared.Until.TheVariants as word
 use Rattle.cml_arguments.specs.declared.Until as words
 use Rattle.cml_host.specs.Behind.{RepliesAfter, bytes_of}
 use Rattle.cml_host.specs.Narrated.{broken_by}
 use Rattle.cml_host.specs.Replies.{File, Passage, PlainReply, RefusalOf, file, refusal, runs_out}
+use Rattle.cml_host.specs.Orders.{order_said, orders_said}
+use Rattle.cml_host.specs.declared.explore.Seen.{Seen}
 use Rattle.cml_host.specs.Scripts.{PlainScript, IsOpened, IsNoScript}
 use Rattle.cml_host.specs.Servers.{IsNoFunction, first_unknown, server_numbers}
 use Rattle.cml_host.specs.Stores.{Content, Shelf}
@@ -30,36 +34,36 @@ use Rattle.cml_host.specs.declared.explain.Halt.{Halt}
 
 -- ---- what is asked for
 
--- the run at which to stop
+-- the runs at which to stop, as the words say it
 abbrev pub stop_of : words.Until → Until
 stop_of word.Waits = stop.Waits
+stop_of word.Deadlock = stop.Deadlock
 stop_of word.Fault = stop.Fault
 stop_of word.Budget = stop.Budget
+stop_of word.Bad = stop.Bad
 
-abbrev pub stop_at : Option Name → Option Until
-stop_at given = option_and_then (λ name. option_map stop_of (until_named name)) given
+abbrev pub stop_in : Option words.Until → List Until
+stop_in None = []
+stop_in (Some word) = stop_of word ∷ []
 
-abbrev pub explored_until : ExploreOptions → Option Name
-explored_until options = option_map (λ name. name.now) options.until
+abbrev pub stops_of : List Name → List Until
+stops_of given = flat_map (λ name. stop_in (until_named name)) given
+
+abbrev pub explored_until : ExploreOptions → List Name
+explored_until options = map (λ name. name.now) options.until.items
 
 -- the names of the functions of servers that the arguments give
 abbrev pub explored_servers : ExploreOptions → List Name
 explored_servers options = map (λ name. name.now) options.servers.items
-
--- By what it is settled in a run what happens next: by priorities, where their depth is given; else by lot, where the turns are to be drawn; and
--- else threads have their turns one after another.
-abbrev pub order_asked : Bool → Option ℕ → Order
-order_asked turns (Some depth) = by.Priority depth
-order_asked turns None = if turns then by.Lot else by.Queue
 
 -- these runs are those that the arguments ask for, where the functions of servers have these numbers
 pub record AsksForRuns (options : ExploreOptions) (servers : List ℕ) (asked : Asked) : Type 0 where
   pub budget : asked.budget ≡ options.steps
   pub first : asked.first ≡ options.seed
   pub runs : asked.runs ≡ options.runs
-  pub order : asked.order ≡ order_asked options.turns options.priority
+  pub orders : asked.orders ≡ orders_said options.picks (order_said options.turns options.priority)
   pub servers_are : asked.servers.now ≡ servers
-  pub until : asked.until ≡ stop_at (explored_until options)
+  pub until : asked.until.now ≡ stops_of (explored_until options)
 
 -- ---- what is shown meanwhile
 
@@ -93,11 +97,33 @@ files_from start budget p classes place [] = []
 files_from start budget p classes place (number ∷ numbers) =
     file_of start budget p classes place number ∷ files_from start budget p classes (suc place) numbers
 
--- these are the files that the arguments ask for: one for each class, in the order in which they are told
-abbrev pub AreFiles : Option Name → ℕ → List (PlainItem ℕ) → List PlainClass → List File → Type 0
-AreFiles None budget p classes files = files ≡ []
-AreFiles (Some start) budget p classes files =
-    (numbers : List ℕ) × AreInRank classes numbers × (files ≡ files_from start budget p classes 1 numbers)
+-- how many bad and good classes there are with this one
+abbrev pub and_one : Seen → Bool → Seen
+and_one seen true = record seen { good = seen.good + 1 }
+and_one seen false = record seen { bad = seen.bad + 1 }
+
+-- of its kind
+abbrev pub seen_of : Seen → Bool → ℕ
+seen_of seen true = seen.good
+seen_of seen false = seen.bad
+
+-- the file of a class that was told, the last of its kind so far
+abbrev pub file_told : Name → ℕ → List (PlainItem ℕ) → List PlainClass → Seen → ClassTold → File
+file_told start budget p classes seen c = file_of (start_of start c.well) budget p classes (seen_of seen c.well) c.number
+
+-- the files of these classes, behind so many: bad ones and good ones are counted apart
+abbrev pub files_behind : Name → ℕ → List (PlainItem ℕ) → List PlainClass → Seen → List ClassTold → List File
+files_behind start budget p classes seen [] = []
+files_behind start budget p classes seen (c ∷ cs) =
+    file_told start budget p classes (and_one seen c.well) c ∷ files_behind start budget p classes (and_one seen c.well) cs
+
+abbrev pub none_seen : Seen
+none_seen = record { bad = 0; good = 0 }
+
+-- the files that the arguments ask for: one for each class, in the order in which they are told
+abbrev pub files_told : Option Name → ℕ → List (PlainItem ℕ) → List PlainClass → List ClassTold → List File
+files_told None budget p classes told = []
+files_told (Some start) budget p classes told = files_behind start budget p classes none_seen told
 
 -- the status where these runs ended well, or not
 abbrev pub judged : Bool → ℕ
@@ -108,29 +134,32 @@ judged well = if well then 0 else 6
 abbrev pub saved_start : ExploreOptions → Option Name
 saved_start options = option_map (λ start. start.now) options.save
 
--- Some text tells of what was made; the files that are asked for are saved; and the status says whether all runs ended well.
-abbrev pub TellsRuns : Option Name → ℕ → List (PlainItem ℕ) → PlainExplored → PlainReply → Type 0
-TellsRuns start budget p made reply = AreFiles start budget p made.classes reply.files × (reply.words ≡ []) × (reply.status ≡ judged made.well)
+-- This is told of what was made; the files that are asked for are saved; and the status says whether all runs ended well.
+abbrev pub TellsRuns : Option Name → ℕ → PlainScript → Asked → PlainExplored → PlainReply → Type 0
+TellsRuns start budget s asked made reply =
+    ((told : RunsTold) × IsToldOfRuns (all_places s.text s.forms) s.program asked made told
+    × (reply.files ≡ files_told start budget s.program made.classes told.classes.items))
+    × (reply.words ≡ []) × (reply.status ≡ judged made.well)
 
 -- the runs that the arguments ask for were made, and are told of; or memory ran out
-abbrev pub RunsTold : ExploreOptions → List (PlainItem ℕ) → List ℕ → PlainReply → Type 0
-RunsTold options p servers reply =
+abbrev pub HasToldRuns : ExploreOptions → PlainScript → List ℕ → PlainReply → Type 0
+HasToldRuns options s servers reply =
     ((asked : Asked) × AsksForRuns options servers asked
-    × ((made : PlainExplored) × IsExplored p asked made × TellsRuns (saved_start options) options.steps p made reply))
+    × ((made : PlainExplored) × IsExplored s.program asked made × TellsRuns (saved_start options) options.steps s asked made reply))
     ⊎ (reply ≡ runs_out [])
 
 -- the same behind what was shown; or what is shown could not be written, and nothing is told
-abbrev pub ProgramExplored : ExploreOptions → Bool → List (PlainItem ℕ) → List ℕ → Passage → PlainReply → Type 0
-ProgramExplored options shows p servers errors reply =
+abbrev pub ProgramExplored : ExploreOptions → Bool → PlainScript → List ℕ → Passage → PlainReply → Type 0
+ProgramExplored options shows s servers errors reply =
     ShowsMarks shows (bytes_of errors)
-    × (((errors.new.failed ≡ errors.old.failed) × RunsTold options p servers reply)
+    × (((errors.new.failed ≡ errors.old.failed) × HasToldRuns options s servers reply)
     ⊎ ((errors.new.failed ≡ counted errors.old.failed) × (reply ≡ refusal [] 1)))
 
 -- The same of the script, where it has the functions that are named as those of servers; or it has not, or memory ran out before.
 abbrev pub ScriptExplored : ExploreOptions → Bool → PlainScript → Passage → PlainReply → Type 0
 ScriptExplored options shows s errors reply =
     ((first_unknown s (explored_servers options) ≡ None)
-    × ProgramExplored options shows s.program (server_numbers s (explored_servers options)) errors reply)
+    × ProgramExplored options shows s (server_numbers s (explored_servers options)) errors reply)
     ⊎ (RefusalOf (IsNoFunction s (explored_servers options)) reply × (errors.new ≡ errors.old))
 
 -- The runs of the script that lies under the name were made and told of; how far it is is shown where the errors go to a terminal. Or no

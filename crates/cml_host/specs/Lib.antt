@@ -4,6 +4,7 @@ pub mod Written
 pub mod Refused
 pub mod Replies
 pub mod Behind
+pub mod Orders
 pub mod Scripts
 pub mod Servers
 pub mod Plans
@@ -16,7 +17,10 @@ pub mod Running
 pub mod Replaying
 pub mod Narrated
 pub mod Exploring
+pub mod Json
+pub mod Outcomes
 pub mod Verified
 pub mod Shrunk
 pub mod Stepped
 pub mod Statuses
+pub mod Laws

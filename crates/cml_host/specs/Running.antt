@@ -1,5 +1,5 @@
 -- The command `run`: what it does with a script.
-use Rattle.std.specs.Prelude.{◌≡◌, ◌≢◌, ◌⊎◌, ℕ, ◌<◌, Bool, List, [], ◌∷◌, ◌++◌, true, false, codes, Option, Some, None, length, option_map}
+use Rattle.std.specs.Prelude.{◌≡◌, ◌≢◌, ◌⊎◌, ℕ, ◌<◌, Bool, List, [], ◌∷◌, ◌++◌, true, false, codes, Option, Some, None, length, option_map, unwrap_or}
 use Rattle.cml_check.specs.Syntax.{PlainItem}
 use Rattle.cml_hub.specs.Choices.{seeded}
 use Rattle.cml_host.specs.Chosen.{by_first, by_words}
@@ -25,6 +25,9 @@ use Rattle.cml_host.specs.Stores.{Shelf}
 use Rattle.cml_host.specs.Behind.{RepliesAfter}
 use Rattle.cml_host.specs.Replies.{File, Passage, PlainReply, RefusalOf, Replies, broken, file, refusal, runs_out}
 use Rattle.cml_host.specs.Scripts.{PlainScript, IsOpened, IsNoScript}
+use Rattle.cml_host.specs.Orders.{order_said}
+use Rattle.cml_seed.specs.SeedRuns.{IsSeedRun}
+use Rattle.cml_seed.specs.declared.order.Order.{Order}
 use Rattle.cml_host.specs.Servers.{IsNoFunction, first_unknown, server_numbers, server_names}
 use Rattle.cml_host.specs.Told.{IsRunOf, AllReported, AreTold, AreCut, AreForeign, reports_text}
 use Rattle.cml_host.specs.Closed.{PlainAsked, IsClosed}
@@ -65,6 +68,10 @@ abbrev pub IsEndReply : PlainAsked → PlainSaving → List (PlainItem ℕ) → 
 IsEndReply asked saving p items budget r reply =
     (bare : PlainReply) × IsClosed asked saving.schedule p items budget r bare × IsPictured asked.explains saving.picture p budget items bare reply
 
+-- what is told of the run of this hub, which is over
+abbrev pub IsEnded : PlainAsked → PlainSaving → Kept → PlainReply → Type 0
+IsEnded asked saving h reply = IsEndReply asked saving h.course.program h.course.items h.budget (run_of h.course) reply
+
 -- the reports are written while the program runs: where they are asked for, and more workers than one
 abbrev pub ReportsAreLive : RunOptions → Type 0
 ReportsAreLive options = (1 < options.workers) × (options.watch ≢ None)
@@ -95,6 +102,21 @@ ProgramOutcome asked saving p options output errors store status =
     (items : List Item) × (reports : List PlainReport) × (r : Run) × IsRunOf p options.watch items reports r × SwapsAreExchanges p [] items
     × RepliesAfter (IsRunReply asked saving p options items reports r) output errors store status
 
+-- The run by the seed in this order came to its end, or memory ran out while it was told; or before. Where no seed is given, it is seed 0.
+abbrev pub IsOrderedReply : PlainAsked → PlainSaving → List (PlainItem ℕ) → RunOptions → Order → PlainReply → Type 0
+IsOrderedReply asked saving p options order reply =
+    ((h : Kept) × IsSeedRun p options.steps order (unwrap_or options.seed 0) h × (IsEnded asked saving h reply ⊎ (reply ≡ runs_out h.course.output)))
+    ⊎ (reply ≡ runs_out [])
+
+-- the run by the seed in this order was made, and told
+abbrev pub OrderedOutcome : PlainAsked → PlainSaving → List (PlainItem ℕ) → RunOptions → Order → Passage → Passage → Shelf → ℕ → Type 0
+OrderedOutcome asked saving p options order output errors store status = Replies (IsOrderedReply asked saving p options order) output errors store status
+
+-- The program was run: in this order, where one is said.
+abbrev pub RunsSo : Option Order → PlainAsked → PlainSaving → List (PlainItem ℕ) → RunOptions → Passage → Passage → Shelf → ℕ → Type 0
+RunsSo None asked saving p options output errors store status = ProgramOutcome asked saving p options output errors store status
+RunsSo (Some order) asked saving p options output errors store status = OrderedOutcome asked saving p options order output errors store status
+
 -- what is asked of the end of a run of this script
 abbrev pub run_asked : RunOptions → Bool → PlainScript → PlainAsked
 run_asked options explains s =
@@ -104,7 +126,7 @@ run_asked options explains s =
 abbrev pub ScriptOutcome : Bool → PlainScript → RunOptions → Passage → Passage → Shelf → ℕ → Type 0
 ScriptOutcome explains s options output errors store status =
     ((first_unknown s (server_names options.end) ≡ None)
-    × ProgramOutcome (run_asked options explains s) (saving_of options) s.program options output errors store status)
+    × RunsSo (order_said options.turns options.priority) (run_asked options explains s) (saving_of options) s.program options output errors store status)
     ⊎ Replies (RefusalOf (IsNoFunction s (server_names options.end))) output errors store status
 
 -- `run`: the script that lies under the name was run; or it was not: no script lies there, which may be explained, it was not read, or memory ran out.
@@ -119,6 +141,12 @@ RunOutcome options explains output errors store status =
 abbrev pub BegunOutcome : PlainAsked → PlainSaving → List (PlainItem ℕ) → RunOptions → Passage → Passage → Shelf → ℕ → Type 0
 BegunOutcome asked saving p options output errors store status =
     ProgramOutcome asked saving p options output errors store status ⊎ Replies (λ reply. reply ≡ runs_out []) output errors store status
+
+-- the same, as the arguments say what decides what happens next
+abbrev pub SomehowOutcome : PlainAsked → PlainSaving → List (PlainItem ℕ) → RunOptions → Passage → Passage → Shelf → ℕ → Type 0
+SomehowOutcome asked saving p options output errors store status =
+    RunsSo (order_said options.turns options.priority) asked saving p options output errors store status
+    ⊎ Replies (λ reply. reply ≡ runs_out []) output errors store status
 
 -- The hub has run to its end, and its reports were written to the errors.
 abbrev pub HasRun : Kept → Kept → Counted → Type 0
@@ -175,10 +203,6 @@ abbrev pub stop_reply : Kept → Cause → PlainReply
 stop_reply h cause.Memory = runs_out h.course.output
 stop_reply h cause.Write = broken
 stop_reply h cause.Foreign = refusal (line (codes "foreign hub")) 1
-
--- what is told of the run of this hub, which is over
-abbrev pub IsEnded : PlainAsked → PlainSaving → Kept → PlainReply → Type 0
-IsEnded asked saving h reply = IsEndReply asked saving h.course.program h.course.items h.budget (run_of h.course) reply
 
 -- a picture is saved only where the script is kept
 abbrev pub wanted_of : Option (List ℕ) → Bool → Option (List ℕ)

@@ -14,7 +14,7 @@ use Rattle.cml_check.specs.declared.fault.CheckFault.TheVariants as check_fault
 use Rattle.cml_step.specs.Calls.{text_of}
 use Rattle.cml_host.specs.Stores.{Content, unknown, nothing, bytes}
 use Rattle.cml_host.specs.Refused.{Fault, IsExplained, IsUnread}
-use Rattle.cml_host.specs.Replies.{PlainReply, RefusalOf, TextOr}
+use Rattle.cml_host.specs.Replies.{PlainReply, TextOr}
 use Rattle.cml_host.specs.declared.script.Script.{Script}
 
 -- This is the whole text that lies there: any text, where it is not known; and none, where nothing lies there.

@@ -99,7 +99,7 @@ RanOver words input output errors store status =
 
 -- the numbers that a command is given lie within their bounds
 abbrev pub HasCounts : Task → Type 0
-HasCounts (Run options) = IsWorkerCount options.workers × IsBudget options.steps × IsWatch options.watch
+HasCounts (Run options) = IsWorkerCount options.workers × IsBudget options.steps × IsWatch options.watch × IfSome options.priority IsDepth
 HasCounts (Replay options) = IsWatch options.watch
 HasCounts (Explore options) =
     IsRuns options.runs × IsBudget options.steps × IfSome options.priority IsDepth × (options.seed + options.runs ≤ 2 ^ 64)

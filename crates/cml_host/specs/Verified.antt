@@ -1,5 +1,5 @@
 -- The command `verify`: what is told of every schedule of a script, and what is saved of them.
-use Rattle.std.specs.Prelude.{◌≡◌, ◌⊎◌, ℕ, Bool, true, if◌then◌else◌, List, [], ◌∷◌, ◌++◌, map, Option, None, Some, is_some, option_map}
+use Rattle.std.specs.Prelude.{◌≡◌, ◌⊎◌, ℕ, Bool, MatchBool, true, false, if◌then◌else◌, List, [], map, codes, Option, None, Some, is_some, option_map}
 use Rattle.cml_arguments.specs.declared.VerifyOptions.{VerifyOptions}
 use Rattle.cml_check.specs.Syntax.{Name, PlainItem}
 use Rattle.cml_explore.specs.Classes.{PlainClass}
@@ -8,10 +8,13 @@ use Rattle.cml_explore.specs.Explored.{PlainExplored}
 use Rattle.cml_explore.specs.declared.ends.EndsTold.{EndsTold}
 use Rattle.cml_phrase.specs.Spots.{all_places}
 use Rattle.cml_schedule.specs.declared.item.Item.{Item}
+use Rattle.cml_text.specs.Lines.{line}
 use Rattle.cml_verify.specs.Verdicts.{IsVerdict}
 use Rattle.cml_verify.specs.declared.every.Verdict.{Verdict}
 use Rattle.cml_host.specs.Exploring.{files_from}
-use Rattle.cml_host.specs.Replies.{File, PlainReply, RefusalOf, runs_out}
+use Rattle.cml_host.specs.Outcomes.{AreOutcomes, PlainOutcomeTold, outcome_files, outcomes_text}
+use Rattle.cml_host.specs.Refused.{Fault}
+use Rattle.cml_host.specs.Replies.{File, PlainReply, RefusalOf}
 use Rattle.cml_host.specs.Scripts.{PlainScript, IsNoScript, IsOpened}
 use Rattle.cml_host.specs.Servers.{IsNoFunction, first_unknown, server_numbers}
 use Rattle.cml_host.specs.Stores.{Content}
@@ -26,7 +29,7 @@ ends_of v = map (λ schedule. schedule.items) v.ends.items
 -- alike, and that is told of them.
 pub record IsExamined (s : PlainScript) (bound : ℕ) (servers : List ℕ) (reach : Option ℕ) (made : PlainExplored) (told : EndsTold) : Type 0 where
   pub verdict : Verdict
-  pub found : IsVerdict s.program bound verdict.reach (ends_of verdict) verdict.states
+  pub found : IsVerdict s.program false bound verdict.reach (ends_of verdict) verdict.states
   pub reach_is : reach ≡ verdict.reach
   pub gathered : IsGathered s.program servers (ends_of verdict) made
   pub told_are : AreEndsTold (all_places s.text s.forms) s.program servers made.classes told
@@ -55,21 +58,49 @@ abbrev pub VerdictTold : VerifyOptions → List (PlainItem ℕ) → Option ℕ �
 VerdictTold options p reach made told reply =
     (reply.files ≡ end_files (ends_start options) p made.classes told.order.items) × (reply.words ≡ []) × (reply.status ≡ verdict_status reach made.well)
 
--- the script was examined, and it is told what was found
-abbrev pub ProgramVerified : VerifyOptions → PlainScript → List ℕ → PlainReply → Type 0
-ProgramVerified options s servers reply =
+-- the script was examined, and it is told how its schedules end
+abbrev pub TellsEnds : VerifyOptions → PlainScript → List ℕ → PlainReply → Type 0
+TellsEnds options s servers reply =
     (reach : Option ℕ) × (made : PlainExplored) × (told : EndsTold) × IsExamined s options.states servers reach made told
     × VerdictTold options s.program reach made told reply
 
--- the same, where the script has the functions that are named as those of servers, or that memory ran out; or it has not
+-- these outcomes, and what the search came to; a file for each, where that is asked for; and the status
+abbrev pub outcomes_reply : Option Name → List (PlainItem ℕ) → ℕ → Option ℕ → List PlainOutcomeTold → ℕ → PlainReply
+outcomes_reply start p states reach told status = record {
+  output = outcomes_text told states reach;
+  files = outcome_files start p told;
+  words = [];
+  status = status;
+}
+
+-- Every schedule of the script was examined, up to so many states, with what it prints. The outcomes of those of a verdict are told, and the
+-- status says whether all ends are good, and all were found.
+pub record TellsOutcomes (options : VerifyOptions) (s : PlainScript) (servers : List ℕ) (reply : PlainReply) : Type 0 where
+  pub verdict : Verdict
+  pub found : IsVerdict s.program true options.states verdict.reach (ends_of verdict) verdict.states
+  pub made : PlainExplored
+  pub gathered : IsGathered s.program servers (ends_of verdict) made
+  pub told : List PlainOutcomeTold
+  pub outcomes : AreOutcomes s.program (ends_of verdict) told
+  pub reply_is : reply ≡ outcomes_reply (ends_start options) s.program verdict.states verdict.reach told (verdict_status verdict.reach made.well)
+
+-- what was asked for: how the schedules end, or what each gives
+abbrev pub ProgramVerified : VerifyOptions → PlainScript → List ℕ → PlainReply → Type 0
+ProgramVerified options s servers reply = MatchBool options.outcomes (TellsOutcomes options s servers reply) (TellsEnds options s servers reply)
+
+-- a thread does not stand in the script, which does not come about
+abbrev pub IsAstray : Fault
+IsAstray told status = (told ≡ line (codes "foreign thread")) × (status ≡ 1)
+
+-- the same, where the script has the functions that are named as those of servers, or there is no verdict; or it has not
 abbrev pub ScriptVerified : VerifyOptions → PlainScript → PlainReply → Type 0
 ScriptVerified options s reply =
     ((first_unknown s (verified_servers options) ≡ None)
-    × (ProgramVerified options s (server_numbers s (verified_servers options)) reply ⊎ (reply ≡ runs_out [])))
+    × (ProgramVerified options s (server_numbers s (verified_servers options)) reply ⊎ RefusalOf IsAstray reply))
     ⊎ RefusalOf (IsNoFunction s (verified_servers options)) reply
 
--- `verify`: every schedule of the script that lies under the name was examined, up to the bound, and it is told how they end. Or no script lies
--- there, which is explained, it was not read, or memory ran out.
+-- `verify`: every schedule of the script that lies under the name was examined, up to the bound, and it is told how they end, or what they give.
+-- Or there is no verdict. Or no script lies there, which is explained, it was not read, or memory ran out.
 abbrev pub VerifyOutcome : VerifyOptions → (List ℕ → Content) → PlainReply → Type 0
 VerifyOutcome options held reply =
     ((s : PlainScript) × IsOpened (held options.script.now) s × ScriptVerified options s reply)

@@ -1,20 +1,23 @@
 //! The command `explore`: a script runs many times, and it is told how the runs end.
 
-ghost use Rattle.std.specs.{Prelude.{◌≡◌, [], ◌+◌, ◌≤◌, ◌<◌, ◌^◌, IfOk, IfErr, IfSome, OnErr, OnOk, Some, length, map, option_map, true}, Fmt.{decimal}};
+ghost use Rattle.std.specs.{Prelude.{◌≡◌, [], ◌+◌, ◌++◌, ◌-◌, ◌≤◌, ◌<◌, ◌^◌, IfOk, IfErr, IfSome, OnErr, OnOk, length, map, option_map, true}, Fmt.{decimal}};
 ghost use Rattle.std.specs.{List.{All}, String.{string_bytes}};
 ghost use Rattle.cml_check.specs.Sizes.{size_of};
 ghost use Rattle.cml_explore.specs.Explored.{HasMade, IsExplored, SoFar};
 ghost use Rattle.cml_host.specs.Behind.{bytes_of};
-ghost use Rattle.cml_host.specs.Exploring.{AreFiles, AsksForRuns, ExploreOutcome, ExploresSo, ProgramExplored, ScriptExplored, ShowsMarks, StopsShowing, TellsRuns, files_from, judged, saved_start, stop_at};
+ghost use Rattle.cml_host.specs.Exploring.{AsksForRuns, ExploreOutcome, ExploresSo, ProgramExplored, ScriptExplored, ShowsMarks, StopsShowing, TellsRuns, explored_until, file_told, files_behind, files_from, files_told, judged, none_seen, saved_start, stop_in, stops_of};
 ghost use Rattle.cml_host.specs.{Narrated.{IsCutBy, Writes}, Replies.{file, passage, plain_file, plain_of, plain_reply}, Scripts.{plain_script}, Stores.{IsUnchanged, Shelf}};
 ghost use Rattle.cml_host.specs.Exploring as spec;
 ghost use Rattle.cml_host.specs.declared.explain.Halt.TheVariants.{Write};
 ghost use Rattle.cml_hub.specs.Kept.{IsBudget};
 ghost use Rattle.cml_schedule.specs.Written.{schedule_text};
 ghost use Rattle.cml_stream.specs.{Counts.{counted}, Streams.{stream}};
-ghost use Rattle.cml_arguments.specs.Words.{IsDepth, IsRuns, saved_name};
+ghost use Rattle.cml_arguments.specs.Words.{IsDepth, IsRuns, saved_name, start_of, until_named};
+ghost use Rattle.cml_explore.specs.Told.{IsToldOfRuns};
+ghost use Rattle.cml_phrase.specs.Spots.{all_places};
 
 use crate::explain::Halt;
+use crate::order::{order_said, orders_said};
 use crate::output::write_words;
 use crate::refusal::Refusal;
 use crate::reply::{File, Reply, carry_out, new_file};
@@ -23,15 +26,22 @@ use crate::servers::find_servers;
 use crate::store::Store;
 use cml_arguments::{ExploreOptions, Until as Word};
 use cml_check::Prog;
-use cml_explore::{Asked, Classes, Explored, Order, Until, explain_runs};
+use cml_explore::{Asked, ClassTold, Classes, Explored, RunsTold, Until, tell_runs, write_runs};
 use cml_schedule::{Item, schedule_text};
 use cml_stream::Counting;
 use std::alloc::{AllocError, Global};
 use std::io::Write;
-use std::thread::Threads;
+use std::thread::{Threads, available_parallelism};
 
 // The status where a run did not end well.
 const UNWELL: u8 = 6;
+
+/// How many bad and how many good classes there were.
+#[derive(Clone, Copy)]
+struct Seen {
+    bad: usize,
+    good: usize,
+}
 
 /// Makes the runs of the script that lies under its name that are asked for, tells how they ended, and saves a schedule of each kind of end, where
 /// that is asked for. Where the errors go to a terminal it is shown meanwhile how far it is. What is wrong with the script is explained.
@@ -96,48 +106,95 @@ fn explore_opened<R: Threads + Sync, E: Write>(
     ensures same_err { err.new.stream.ghost_name ≡ err.old.stream.ghost_name }
 {
     match find_servers(alloc, script, options.servers.as_slice()) {
-        Ok(servers) => {
-            let asked = asked_for(options, servers.as_slice());
-            explore_program(rt, alloc, script, options, &asked, shows, err)
-        }
+        Ok(servers) => explore_with(rt, alloc, script, options, servers.as_slice(), shows, err),
         Err(why) => Err(why),
     }
 }
 
-// What the arguments ask for, where the functions of servers have these numbers.
-fn asked_for<'a>(options: &ExploreOptions<'_>, servers: &'a [u32]) -> Asked<'a>
+// The same of its runs, where the functions of servers have these numbers.
+fn explore_with<R: Threads + Sync, E: Write>(
+    rt: &R,
+    alloc: Global,
+    script: &Script,
+    options: &ExploreOptions<'_>,
+    servers: &[u32],
+    shows: bool,
+    err: &mut Counting<'_, E>,
+) -> Result<Reply, Refusal>
+    requires counts { IsRuns options.now.runs × IsBudget options.now.steps }
     requires depth { IfSome options.now.priority IsDepth }
+    requires seeds { options.now.seed + options.now.runs ≤ 2 ^ 64 }
+    ensures told { ProgramExplored options.now shows (plain_script script.now) servers.now (passage E.contents err.old err.new) (plain_reply [] result) }
+    ensures same_err { err.new.stream.ghost_name ≡ err.old.stream.ghost_name }
+{
+    match stops_named(alloc, options.until.as_slice()) {
+        Ok(until) => {
+            let asked = asked_for(options, servers, until.as_slice());
+            explore_program(rt, alloc, script, options, &asked, shows, err)
+        }
+        Err(AllocError) => Err(Refusal::Memory),
+    }
+}
+
+// What the arguments ask for, where the functions of servers have these numbers.
+fn asked_for<'a>(options: &ExploreOptions<'_>, servers: &'a [u32], until: &'a [Until]) -> Asked<'a>
+    requires depth { IfSome options.now.priority IsDepth }
+    requires until { until.now ≡ stops_of (explored_until options.now) }
     ensures { AsksForRuns options.now servers.now result }
 {
     Asked {
         budget: options.steps,
         first: options.seed,
         runs: options.runs,
-        order: order_asked(options.turns, options.priority),
+        orders: orders_said(options.picks, order_said(options.turns, options.priority)),
         servers,
-        until: stop(options.until),
+        until,
     }
 }
 
-// By what it is settled what happens next.
-fn order_asked(turns: bool, priority: Option<u64>) -> Order
-    requires depth { IfSome priority IsDepth }
-    ensures { result ≡ spec.order_asked turns priority }
+// The runs at which to stop, as these words say it.
+fn stops_named(alloc: Global, words: &[&str]) -> Result<Vec<Until>, AllocError>
+    ensures { IfOk result (λ stops. stops.items ≡ stops_of (map (λ word. word.now) words.now)) }
 {
-    match priority {
-        Some(depth) => Order::Priority(depth as u32),
-        None => { if turns { Order::Lot } else { Order::Queue } }
+    let mut stops = Vec::new(alloc);
+    for word in words {
+        push_stop(&mut stops, word)?;
+    }
+    Ok(stops)
+}
+
+// Appends the run at which to stop, if the word means one.
+fn push_stop(stops: &mut Vec<Until>, word: &str) -> Result<(), AllocError>
+    ensures { OnOk result (stops.new.items ≡ stops.old.items ++ stop_in (until_named word.now)) }
+{
+    match Word::named(word) {
+        Some(word) => Ok(stops.push(stop(word))?),
+        None => Ok(()),
     }
 }
 
 // The run at which to stop.
-fn stop(word: Option<&str>) -> Option<Until>
-    ensures { result ≡ stop_at (option_map (λ name. name.now) word.entry) }
+fn stop(word: Word) -> Until
+    ensures { result ≡ spec.stop_of word }
 {
-    match Word::named(word?)? {
-        Word::Waits => Some(Until::Waits),
-        Word::Fault => Some(Until::Fault),
-        Word::Budget => Some(Until::Budget),
+    match word {
+        Word::Waits => Until::Waits,
+        Word::Deadlock => Until::Deadlock,
+        Word::Fault => Until::Fault,
+        Word::Budget => Until::Budget,
+        Word::Bad => Until::Bad,
+    }
+}
+
+// How many workers make the runs: as many as are asked for; or one for each processor, where that is known; and else one. What is told is the
+// same for any number.
+fn worker_count<R: Threads>(rt: &R, asked: Option<u64>) -> usize {
+    match asked {
+        Some(count) => count as usize,
+        None => match available_parallelism(rt) {
+            Ok(count) => count.get(),
+            Err(_) => 1,
+        },
     }
 }
 
@@ -154,18 +211,11 @@ fn explore_program<R: Threads + Sync, E: Write>(
     requires counts { IsRuns asked.now.runs × IsBudget asked.now.budget }
     requires seeds { asked.now.first + asked.now.runs ≤ 2 ^ 64 }
     requires asks { AsksForRuns options.now asked.now.servers.now asked.now }
-    ensures told { ProgramExplored options.now shows script.now.program asked.now.servers.now (passage E.contents err.old err.new) (plain_reply [] result) }
+    ensures told { ProgramExplored options.now shows (plain_script script.now) asked.now.servers.now (passage E.contents err.old err.new) (plain_reply [] result) }
     ensures same_err { err.new.stream.ghost_name ≡ err.old.stream.ghost_name }
 {
-    match explored(
-        rt,
-        alloc,
-        &script.program,
-        asked,
-        options.workers,
-        shows,
-        err,
-    ) {
+    let workers = worker_count(rt, options.workers);
+    match explored(rt, alloc, &script.program, asked, workers, shows, err) {
         Ok(made) => Ok(told_made(alloc, script, options, asked, &made)?),
         Err(Halt::Memory) => Err(Refusal::Memory),
         Err(Halt::Write) => Err(Refusal::Line("", 1)),
@@ -371,11 +421,21 @@ fn told_made(
 ) -> Result<Reply, AllocError>
     requires budget { IsBudget asked.now.budget }
     requires seeds { asked.now.first + made.now.runs ≤ 2 ^ 64 }
-    ensures { IfOk result (λ reply. TellsRuns (saved_start options.now) options.now.steps script.now.program made.now (plain_of reply)) }
+    ensures { IfOk result (λ reply. TellsRuns (saved_start options.now) options.now.steps (plain_script script.now) asked.now made.now (plain_of reply)) }
 {
-    let output = told_of(alloc, script, options.script, asked, made)?;
+    let told = told_of(alloc, script, asked, made)?;
+    let output = words_of(alloc, script, options, &told)?;
+    let classes = told.classes.as_slice();
     let program = &script.program;
-    let files = asked_files(alloc, program, options.steps, options.save, made.classes())?;
+    let files = asked_files(
+        alloc,
+        program,
+        options.steps,
+        options.save,
+        made.classes(),
+        classes,
+    )?;
+    drop(told);
     Ok(Reply {
         output,
         files,
@@ -388,16 +448,29 @@ fn told_made(
 fn told_of(
     alloc: Global,
     script: &Script,
-    name: &str,
     asked: &Asked<'_>,
     made: &Explored,
-) -> Result<Vec<u8>, AllocError>
+) -> Result<RunsTold, AllocError>
     requires budget { IsBudget asked.now.budget }
     requires seeds { asked.now.first + made.now.runs ≤ 2 ^ 64 }
+    ensures { IfOk result (λ told. IsToldOfRuns (all_places script.now.text.items script.now.forms.items) script.now.program asked.now made.now told) }
 {
     let text = script.text.as_slice();
     let forms = script.forms.as_slice();
-    explain_runs(alloc, name, text, forms, &script.program, *asked, made)
+    tell_runs(alloc, text, forms, &script.program, *asked, made)
+}
+
+// The same in words.
+fn words_of(
+    alloc: Global,
+    script: &Script,
+    options: &ExploreOptions<'_>,
+    told: &RunsTold,
+) -> Result<Vec<u8>, AllocError> {
+    let mut words = Vec::new(alloc);
+    let forms = script.forms.as_slice();
+    write_runs(alloc, &mut words, options.script, forms, told, options.save)?;
+    Ok(words)
 }
 
 // The status of the runs.
@@ -407,34 +480,106 @@ fn judge(made: &Explored) -> u8
     if made.is_well() { 0 } else { UNWELL }
 }
 
-// A file for each class, where that is asked for.
+// A file for each class, in the order in which they are told, where that is asked for.
 fn asked_files(
     alloc: Global,
     program: &Prog,
     budget: u64,
     start: Option<&str>,
     classes: &Classes,
+    told: &[ClassTold],
 ) -> Result<Vec<File>, AllocError>
-    ensures { IfOk result (λ files. AreFiles (option_map (λ start. start.now) start.entry) budget program.now classes.now (map plain_file files.items)) }
+    requires below { All (λ c. c.number < length classes.now) told.now }
+    ensures { IfOk result (λ files. map plain_file files.items ≡ files_told (option_map (λ start. start.now) start.entry) budget program.now classes.now told.now) }
 {
     match start {
-        Some(start) => ranked_files(alloc, program, budget, start, classes),
+        Some(start) => told_files(alloc, program, budget, start, classes, told),
         None => Ok(Vec::new(alloc)),
     }
 }
 
-// A file for each class, in the order in which they are told.
-fn ranked_files(
+// A file for each class.
+fn told_files(
     alloc: Global,
     program: &Prog,
     budget: u64,
     start: &str,
     classes: &Classes,
+    told: &[ClassTold],
 ) -> Result<Vec<File>, AllocError>
-    ensures { IfOk result (λ files. AreFiles (Some start.now) budget program.now classes.now (map plain_file files.items)) }
+    requires below { All (λ c. c.number < length classes.now) told.now }
+    ensures { IfOk result (λ files. map plain_file files.items ≡ files_behind start.now budget program.now classes.now none_seen told.now) }
 {
-    let numbers = classes.ranking(alloc)?;
-    class_files(alloc, program, budget, start, classes, numbers.as_slice())
+    let mut files = Vec::new(alloc);
+    let mut seen = Seen { bad: 0, good: 0 };
+    for class in told {
+        seen = and_one(seen, class.well);
+        let file = told_file(alloc, program, budget, start, classes, class, seen)?;
+        files.push(file)?;
+    }
+    Ok(files)
+}
+
+// One class more that is good, or not.
+fn and_one(seen: Seen, well: bool) -> Seen
+    requires { (seen.bad < 2 ^ 64 - 1) × (seen.good < 2 ^ 64 - 1) }
+    ensures { result ≡ spec.and_one seen well }
+{
+    if well {
+        Seen {
+            bad: seen.bad,
+            good: seen.good + 1,
+        }
+    } else {
+        Seen {
+            bad: seen.bad + 1,
+            good: seen.good,
+        }
+    }
+}
+
+// The file of a class, the last of its kind so far.
+fn told_file(
+    alloc: Global,
+    program: &Prog,
+    budget: u64,
+    start: &str,
+    classes: &Classes,
+    class: &ClassTold,
+    seen: Seen,
+) -> Result<File, AllocError>
+    requires below { class.now.number < length classes.now }
+    ensures { IfOk result (λ f. plain_file f ≡ file_told start.now budget program.now classes.now seen class.now) }
+{
+    let name = kind_start(alloc, start, class.well)?;
+    let known = classes.class(class.number);
+    let items = known.summary.shortest();
+    class_file(
+        alloc,
+        program,
+        budget,
+        name.as_str(),
+        seen_of(seen, class.well),
+        items,
+    )
+}
+
+// How many of this kind there are.
+fn seen_of(seen: Seen, well: bool) -> usize
+    ensures { result ≡ spec.seen_of seen well }
+{
+    if well { seen.good } else { seen.bad }
+}
+
+// What the names of the files of good or of bad classes begin with.
+fn kind_start(alloc: Global, start: &str, well: bool) -> Result<String, AllocError>
+    ensures { IfOk result (λ name. string_bytes name ≡ start_of start.now well) }
+{
+    if well {
+        format!(in alloc; "{start}-good")
+    } else {
+        format!(in alloc; "{start}-bad")
+    }
 }
 
 /// A file with a schedule of each of the classes of these numbers.
@@ -462,8 +607,11 @@ pub fn class_files(
     Ok(files)
 }
 
-// The file of the class that comes in this place in the answer, counted from 1, with this schedule.
-fn class_file(
+/// The file of the class that comes in this place in the answer, counted from 1, with this schedule.
+///
+/// # Errors
+/// Out of memory.
+pub fn class_file(
     alloc: Global,
     program: &Prog,
     budget: u64,

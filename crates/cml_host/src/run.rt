@@ -1,13 +1,15 @@
 //! The command `run`: a script runs to its end, and its schedule is saved where that is asked for.
 
-ghost use Rattle.std.specs.Prelude.{◌≡◌, IfErr, IfOk, is_some, option_map};
+ghost use Rattle.std.specs.Prelude.{◌≡◌, IfErr, IfOk, IfSome, is_some, option_map};
+ghost use Rattle.cml_arguments.specs.Words.{IsDepth};
 ghost use Rattle.cml_hub.specs.Kept.{IsAtStart, IsBudget, IsWatch};
 ghost use Rattle.cml_host.specs.{Closed.{plain_asked}, Replies.{behind, passage, plain_of}, Scripts.{plain_script}, Stores.{Shelf}};
-ghost use Rattle.cml_host.specs.Running.{BegunOutcome, IsEnded, PlainSaving, ProgramOutcome, RunOutcome, ScriptOutcome, plain_saving, wanted_of};
+ghost use Rattle.cml_host.specs.Running.{BegunOutcome, IsEnded, OrderedOutcome, PlainSaving, ProgramOutcome, RunOutcome, ScriptOutcome, SomehowOutcome, plain_saving, wanted_of};
 ghost use Rattle.cml_host.specs.declared.refusal.Refusal.TheVariants.{Memory};
 ghost use Rattle.cml_work.specs.Works.{IsWorkerCount};
 
 use crate::close::{Asked, ask, is_explained};
+use crate::order::order_said;
 use crate::picture::{Wanted, wanted_from, with_picture};
 use crate::refusal::Refusal;
 use crate::reply::{Reply, carry_out};
@@ -18,10 +20,12 @@ use crate::tell::{close_reply, hub_is_a_run, let_go, stop};
 use crate::workers::run_hub;
 use cml_arguments::RunOptions;
 use cml_check::Prog;
+use cml_explore::Order;
 use cml_hub::Hub;
+use cml_seed::seed_run;
 use cml_stream::Counting;
 use cml_work::Gate;
-use std::alloc::Global;
+use std::alloc::{AllocError, Global};
 use std::io::Write;
 use std::sync::Wait;
 use std::thread::Threads;
@@ -53,6 +57,7 @@ where
     E: Write + Send,
     S: Store,
     requires counts { IsWorkerCount options.now.workers × IsBudget options.now.steps × IsWatch options.now.watch }
+    requires depth { IfSome options.now.priority IsDepth }
     requires fresh { err.old.failed ≡ 0 }
     ensures ran { let output = passage O.contents out.old out.new in
         let errors = passage E.contents err.old err.new in
@@ -86,6 +91,7 @@ where
     E: Write + Send,
     S: Store,
     requires counts { IsWorkerCount options.now.workers × IsBudget options.now.steps × IsWatch options.now.watch }
+    requires depth { IfSome options.now.priority IsDepth }
     requires fresh { err.old.failed ≡ 0 }
     ensures ran { let output = passage O.contents out.old out.new in
         let errors = passage E.contents err.old err.new in
@@ -100,7 +106,7 @@ where
             let strict = options.end.strict;
             let (program, asked) = ask(options.file, script, explains, draws, strict, servers);
             let saving = saving_for(&asked, options.record, options.draw);
-            run_program(
+            run_so(
                 rt, alloc, gate, program, &asked, &saving, options, out, err, store,
             )
         }
@@ -122,6 +128,82 @@ fn saving_for<'a>(
 {
     let picture = wanted_from(asked, draw);
     Saving { schedule, picture }
+}
+
+// Runs the program, as the arguments say what decides what happens next.
+fn run_so<R, G, O, E, S>(
+    rt: &R,
+    alloc: Global,
+    gate: &G,
+    program: Prog,
+    asked: &Asked<'_>,
+    saving: &Saving<'_>,
+    options: &RunOptions<'_>,
+    out: &mut Counting<'_, O>,
+    err: &mut Counting<'_, E>,
+    store: &mut S,
+) -> u8
+where
+    R: Threads + Wait + Sync,
+    G: Gate + Sync,
+    O: Write,
+    E: Write + Send,
+    S: Store,
+    requires counts { IsWorkerCount options.now.workers × IsBudget options.now.steps × IsWatch options.now.watch }
+    requires depth { IfSome options.now.priority IsDepth }
+    requires fresh { err.old.failed ≡ 0 }
+    ensures ran { let output = passage O.contents out.old out.new in
+        let errors = passage E.contents err.old err.new in
+        let shelf : Shelf = record { before = S.holds store.old; after = S.holds store.new } in
+        SomehowOutcome (plain_asked asked.now) (plain_saving saving.now) program options.now output errors shelf result }
+    ensures same_out { out.new.stream.ghost_name ≡ out.old.stream.ghost_name }
+    ensures same_err { err.new.stream.ghost_name ≡ err.old.stream.ghost_name }
+{
+    match order_said(options.turns, options.priority) {
+        Some(order) => run_ordered(
+            alloc, program, asked, saving, options, order, out, err, store,
+        ),
+        None => run_program(
+            rt, alloc, gate, program, asked, saving, options, out, err, store,
+        ),
+    }
+}
+
+// Makes the run of the program by the seed in this order, and tells it.
+fn run_ordered<O, E, S>(
+    alloc: Global,
+    program: Prog,
+    asked: &Asked<'_>,
+    saving: &Saving<'_>,
+    options: &RunOptions<'_>,
+    order: Order,
+    out: &mut Counting<'_, O>,
+    err: &mut Counting<'_, E>,
+    store: &mut S,
+) -> u8
+where
+    O: Write,
+    E: Write,
+    S: Store,
+    requires budget { IsBudget options.now.steps }
+    ensures ran { let output = passage O.contents out.old out.new in
+        let errors = passage E.contents err.old err.new in
+        let shelf : Shelf = record { before = S.holds store.old; after = S.holds store.new } in
+        OrderedOutcome (plain_asked asked.now) (plain_saving saving.now) program options.now order output errors shelf result }
+    ensures same_out { out.new.stream.ghost_name ≡ out.old.stream.ghost_name }
+    ensures same_err { err.new.stream.ghost_name ≡ err.old.stream.ghost_name }
+{
+    let seed = options.seed.unwrap_or(0);
+    match seed_run(alloc, &program, options.steps, order, seed) {
+        Ok(hub) => {
+            let made = end(alloc, &hub, asked, saving);
+            let status = carry_out(alloc, hub.out(), &made, out, err, store);
+            drop(made);
+            let_go(hub);
+            status
+        }
+        Err(AllocError) => carry_out(alloc, "", &Err(Refusal::Memory), out, err, store),
+    }
 }
 
 // Runs the program.

@@ -1,14 +1,16 @@
 //! The command `verify`: every schedule of a script is examined, and it is told how they end.
 
-ghost use Rattle.std.specs.{Prelude.{◌≡◌, ◌<◌, [], IfOk, Some, length, map, option_map}, List.{All}};
+ghost use Rattle.std.specs.{Prelude.{◌≡◌, ◌<◌, [], IfErr, IfOk, Some, length, map, option_map}, List.{All}};
 ghost use Rattle.cml_explore.specs.Ends.{AreEndsTold};
-ghost use Rattle.cml_host.specs.{Replies.{plain_file, plain_of, plain_reply}, Scripts.{plain_script}, Stores.{IsUnchanged}};
-ghost use Rattle.cml_host.specs.Verified.{IsExamined, ProgramVerified, ScriptVerified, VerdictTold, VerifyOutcome, end_files, ends_of};
+ghost use Rattle.cml_host.specs.{Refused.{RefusesAs}, Replies.{plain_file, plain_of, plain_reply}, Scripts.{plain_script}, Stores.{IsUnchanged}};
+ghost use Rattle.cml_host.specs.Outcomes.{PlainOutcomeTold, plain_outcome_told};
+ghost use Rattle.cml_host.specs.Verified.{IsAstray, IsExamined, ProgramVerified, ScriptVerified, TellsOutcomes, VerdictTold, VerifyOutcome, end_files, ends_of, ends_start};
 ghost use Rattle.cml_host.specs.Verified as spec;
 ghost use Rattle.cml_phrase.specs.Spots.{all_places};
 ghost use Rattle.cml_verify.specs.Verdicts.{IsVerdict};
 
 use crate::explore::class_files;
+use crate::outcomes::{OutcomeTold, gather_outcomes, outcome_files, outcomes_text};
 use crate::refusal::Refusal;
 use crate::reply::{File, Reply};
 use crate::script::{Script, open_script};
@@ -19,7 +21,7 @@ use cml_check::Prog;
 use cml_ending::push_many;
 use cml_explore::{Classes, EndsTold, Explored, gather_ends, tell_ends, write_ends};
 use cml_text::Sexpr;
-use cml_verify::{Verdict, verify};
+use cml_verify::{Gap, Verdict, outcomes, verify};
 use std::alloc::{AllocError, Global};
 
 // The status where an end is a bad one.
@@ -44,11 +46,11 @@ struct Examined {
     said: Vec<u8>,
 }
 
-/// Examines every schedule of the script that lies under its name, up to so many states, and tells how they end, with a file of a shortest schedule
-/// to each kind of end, where that is asked for.
+/// Examines every schedule of the script that lies under its name, up to so many states, and tells how they end, or what they give, with a file of
+/// a shortest schedule to each kind of end, or each outcome, where that is asked for.
 ///
 /// # Errors
-/// What is wrong with the script, which is explained; or out of memory.
+/// What is wrong with the script, which is explained; a thread does not stand in the script, which does not come about; or out of memory.
 pub fn verify_file<S: Store>(
     alloc: Global,
     options: &VerifyOptions<'_>,
@@ -76,7 +78,7 @@ fn verify_opened(
     match find_servers(alloc, script, options.servers.as_slice()) {
         Ok(servers) => {
             let numbers = servers.as_slice();
-            Ok(verify_program(alloc, script, options, numbers)?)
+            verify_program(alloc, script, options, numbers)
         }
         Err(why) => Err(why),
     }
@@ -88,23 +90,105 @@ fn verify_program(
     script: &Script,
     options: &VerifyOptions<'_>,
     servers: &[u32],
-) -> Result<Reply, AllocError>
-    requires { 0 < options.now.states }
-    ensures { IfOk result (λ reply. ProgramVerified options.now (plain_script script.now) servers.now (plain_of reply)) }
+) -> Result<Reply, Refusal>
+    requires bound { 0 < options.now.states }
+    ensures told { IfOk result (λ reply. ProgramVerified options.now (plain_script script.now) servers.now (plain_of reply)) }
+    ensures err { IfErr result (RefusesAs IsAstray) }
 {
+    if options.outcomes {
+        return tell_outcomes(alloc, script, options, servers);
+    }
     let found = examine(alloc, script, options, servers)?;
-    tell_found(alloc, &script.program, options, found)
+    Ok(tell_found(alloc, &script.program, options, found)?)
 }
 
-// A verdict on the program, where memory did not run out.
-fn verdict_on(alloc: Global, program: &Prog, bound: u64) -> Result<Verdict, AllocError>
+// A search of every schedule of the program, which looks at what was printed, or not.
+fn search(alloc: Global, program: &Prog, bound: usize, with_output: bool) -> Result<Verdict, Gap>
     requires { 0 < bound }
-    ensures { IfOk result (λ v. IsVerdict program.now bound v.reach (ends_of v) v.states) }
+    ensures { IfOk result (λ v. IsVerdict program.now with_output bound v.reach (ends_of v) v.states) }
 {
-    match verify(alloc, program, bound as usize) {
-        Ok(verdict) => Ok(verdict),
-        Err(_) => Err(AllocError),
+    if with_output {
+        outcomes(alloc, program, bound)
+    } else {
+        verify(alloc, program, bound)
     }
+}
+
+// Why there is no verdict.
+fn why_none(gap: Gap) -> Refusal
+    ensures { RefusesAs IsAstray result }
+{
+    match gap {
+        Gap::Memory => Refusal::Memory,
+        Gap::Unkept => Refusal::Line("foreign thread\n", 1),
+    }
+}
+
+// A verdict on the program.
+fn verdict_on(
+    alloc: Global,
+    program: &Prog,
+    bound: u64,
+    with_output: bool,
+) -> Result<Verdict, Refusal>
+    requires bound { 0 < bound }
+    ensures found { IfOk result (λ v. IsVerdict program.now with_output bound v.reach (ends_of v) v.states) }
+    ensures err { IfErr result (RefusesAs IsAstray) }
+{
+    match search(alloc, program, bound as usize, with_output) {
+        Ok(verdict) => Ok(verdict),
+        Err(gap) => Err(why_none(gap)),
+    }
+}
+
+// Examines every schedule, and tells what each gives.
+fn tell_outcomes(
+    alloc: Global,
+    script: &Script,
+    options: &VerifyOptions<'_>,
+    servers: &[u32],
+) -> Result<Reply, Refusal>
+    requires bound { 0 < options.now.states }
+    ensures told { IfOk result (λ reply. TellsOutcomes options.now (plain_script script.now) servers.now (plain_of reply)) }
+    ensures err { IfErr result (RefusesAs IsAstray) }
+{
+    let program = &script.program;
+    let verdict = verdict_on(alloc, program, options.states, true)?;
+    let schedules = verdict.ends.as_slice();
+    let made = gather_ends(alloc, program, servers, schedules)?;
+    let told = gather_outcomes(alloc, program, schedules)?;
+    let status = verdict_status(verdict.reach, made.is_well());
+    drop(made);
+    Ok(reply_outcomes(
+        alloc,
+        program,
+        options.save,
+        &verdict,
+        told.as_slice(),
+        status,
+    )?)
+}
+
+// What is replied of these outcomes, with a schedule of each, where that is asked for.
+fn reply_outcomes(
+    alloc: Global,
+    program: &Prog,
+    start: Option<&str>,
+    verdict: &Verdict,
+    told: &[OutcomeTold],
+    status: u8,
+) -> Result<Reply, AllocError>
+    ensures { let start = option_map (λ start. start.now) start.entry in
+        IfOk result (λ reply. plain_of reply ≡ spec.outcomes_reply start program.now verdict.now.states verdict.now.reach (map plain_outcome_told told.now) status) }
+{
+    let output = outcomes_text(alloc, told, verdict.states, verdict.reach)?;
+    let files = outcome_files(alloc, program, start, told)?;
+    Ok(Reply {
+        output,
+        files,
+        words: Vec::new(alloc),
+        status,
+    })
 }
 
 // Examines every schedule. What is told is made before anything is written.
@@ -113,12 +197,13 @@ fn examine(
     script: &Script,
     options: &VerifyOptions<'_>,
     servers: &[u32],
-) -> Result<Examined, AllocError>
+) -> Result<Examined, Refusal>
     requires bound { 0 < options.now.states }
     ensures found { IfOk result (λ found. IsExamined (plain_script script.now) options.now.states servers.now found.reach found.made found.told) }
     ensures below { IfOk result (λ found. All (λ n. n < length found.made.classes) found.told.order.items) }
+    ensures err { IfErr result (RefusesAs IsAstray) }
 {
-    let verdict = verdict_on(alloc, &script.program, options.states)?;
+    let verdict = verdict_on(alloc, &script.program, options.states, false)?;
     let made = gather_ends(alloc, &script.program, servers, verdict.ends.as_slice())?;
     let told = ends_told(alloc, script, servers, &made)?;
     let said = say_found(alloc, script.forms.as_slice(), options, &verdict, &told)?;
@@ -204,7 +289,7 @@ fn tell_found(
     requires { All (λ n. n < length found.made.classes) found.told.order.items }
     ensures { IfOk result (λ reply. VerdictTold options.now program.now found.reach found.made found.told (plain_of reply)) }
 {
-    let status = verdict_status(&found);
+    let status = verdict_status(found.reach, found.made.is_well());
     let Examined {
         reach: _,
         made,
@@ -246,12 +331,12 @@ fn files_of(
 }
 
 // The status of what was found.
-fn verdict_status(found: &Examined) -> u8
-    ensures { result ≡ spec.verdict_status found.now.reach found.now.made.well }
+fn verdict_status(reach: Option<usize>, well: bool) -> u8
+    ensures { result ≡ spec.verdict_status reach well }
 {
-    if !found.made.is_well() {
+    if !well {
         UNWELL
-    } else if found.reach.is_some() {
+    } else if reach.is_some() {
         BOUNDED
     } else {
         0

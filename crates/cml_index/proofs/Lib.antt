@@ -24,3 +24,4 @@ mod OwnSeat
 mod Crossed
 mod Summed
 mod KeptHeads
+mod Alone

@@ -15,7 +15,7 @@ use Rattle.cml_scan.specs.declared.meet.Meet.TheVariants.{Pair}
 use Rattle.cml_scan.specs.declared.meet.Place.{Place}
 use Rattle.cml_scan.specs.Light.{lit_by}
 use Rattle.cml_scan.specs.World.{PlainEntry}
-use Rattle.cml_scan.specs.Scan.{PlainOffer}
+use Rattle.cml_scan.specs.Scan.{PlainOffer, place_of, heads_of, partners_of}
 use Rattle.cml_scan.specs.Order.{before, place, has_partner}
 use Rattle.cml_index.specs.declared.slot.Slot.{Slot}
 use Rattle.cml_index.specs.declared.heads.HeadKind.{HeadKind}
@@ -71,3 +71,8 @@ head_total os (n ∷ ns) = length (heads_on os n) + head_total os ns
 pub record IsFoundEarly (sought : List Place) (k : ℕ) (lane : List Place) (p : Place) (was now : ℕ) : Type 0 where
   pub value : slice_get sought k ≡ Some p
   pub early : now + 3 * length (filter (before p) lane) ≤ was + 3 * length lane
+
+-- The row begins with the head of this number among these rows, and no other row does.
+pub record IsOnlyRow (rows : List Meet) (k : ℕ) (row : Meet) : Type 0 where
+  pub head : slice_get (heads_of rows) k ≡ Some (place_of row)
+  pub only : partners_of rows (place_of row) ≡ row ∷ []

@@ -8,6 +8,7 @@ pub mod Seats
 pub mod Posts
 pub mod Told
 pub mod Crossing
+pub mod Entry
 pub mod Heads
 pub mod Waits
 pub mod Cores

@@ -99,6 +99,20 @@ ComesWithin digits s = 0 < length (late_in s) → length (places_in s) < 2 ^ dig
 abbrev pub GoesWithin : ℕ → Option LaneState → Type 0
 GoesWithin digits s = 0 < going_in s → length (places_in s) < 2 ^ digits
 
+-- the only leaf of the thread has come, or no offer is there that was not; the same leaves are to come and to go
+pub record ComesLone {A E : Type 0} (result : Result A E) (tid : Tid) (old new : Option LaneState) : Type 0 where
+  pub places : OnOk result (places_in new ≡ with_run tid (0 ∷ []) (places_in old))
+  pub none : OnErr result (places_in new ≡ places_in old)
+  pub late : late_in new ≡ late_in old
+  pub going : going_in new ≡ going_in old
+
+-- the only leaf of the thread has gone, and there is no less room
+pub record GoesLone (tid : Tid) (old new : Option LaneState) : Type 0 where
+  pub places : places_in new ≡ others tid (places_in old)
+  pub late : late_in new ≡ late_in old
+  pub going : going_in new ≡ going_in old
+  pub room : room_in old ≤ room_in new
+
 pub record HasForgone (old new : Option LaneState) : Type 0 where
   pub places : places_in new ≡ places_in old
   pub late : late_in new ≡ []

@@ -1,7 +1,7 @@
 -- What a leaf waits for, and what the index reads of it alone: whether it can be taken alone, and whom it meets.
 use Rattle.std.specs.Prelude.{◌≡◌, ◌<◌, ◌^◌, Bool, true, false, ◌&&◌, if◌then◌else◌, List, [], ◌∷◌, map, length, Option, Some, None}
 use Rattle.cml_value.specs.Value.{PlainBase}
-use Rattle.cml_value.specs.Group.{PlainGroup, bases}
+use Rattle.cml_value.specs.Group.{PlainGroup, leaf, bases}
 use Rattle.cml_value.specs.declared.number.Tid.{Tid}
 use Rattle.cml_scan.specs.declared.object.Light.{Light}
 use Rattle.cml_scan.specs.declared.meet.Meet.{Meet}
@@ -36,6 +36,12 @@ pub record IsPost (group : PlainGroup) (waits : List Wait) : Type 0 where
   pub slots : map slot_in waits ≡ map slot_of (bases group)
   pub many : length waits ≡ length (bases group)
   pub small : length (bases group) < 2 ^ 32
+
+-- the group is one leaf, which waits for this
+pub record IsLone (group : PlainGroup) (wait : Wait) : Type 0 where
+  pub base : PlainBase
+  pub is : group ≡ leaf base
+  pub same : wait ≡ leaf_wait base
 
 -- whether a leaf in this lane can be taken alone: it waits for a light, and that is lit
 abbrev pub lit_slot : (Light → Bool) → Slot → Bool

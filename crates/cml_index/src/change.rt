@@ -1,18 +1,19 @@
 //! A change as a whole.
 
-ghost use Rattle.std.specs.Prelude.{◌≡◌, ◌≤◌, ◌+◌, ◌*◌, ℕ, true, false, not, if◌then◌else◌, Some, None, length, OnOk, OnErr, IsOk};
+ghost use Rattle.std.specs.Prelude.{◌≡◌, ◌≤◌, ◌+◌, ◌*◌, ℕ, true, false, not, ◌≢◌, if◌then◌else◌, Some, None, length, All, OnOk, OnErr, IsOk};
 ghost use Rattle.cml_value.specs.Group.{bases};
-ghost use Rattle.cml_scan.specs.{declared.object.Light.{Light}, Order.{Every}, Table.{without, changed, has_light, CanChange}};
-ghost use Rattle.cml_index.specs.{Cores.{seen, IsIndexed, IsAtRest, AreThere, IsSame, IsStill, HasFreed, HasRoom}, Slots.{HaveDigits}};
+ghost use Rattle.cml_scan.specs.{declared.object.Light.{Light}, Order.{Every}, Table.{without, with_entry, changed, has_light, lit_after, AreApart, CanChange}};
+ghost use Rattle.cml_index.specs.{Cores.{seen, IsIndexed, IsAtRest, AreThere, IsSame, IsStill, HasFreed, HasRoom}, Slots.{HaveDigits}, Waits.{IsLone}};
 ghost use Rattle.cml_index.specs.Posts as spec;
 
 use crate::entry::Entry;
 use crate::flags::forget_light;
 use crate::nacks::reserve_lights;
+use crate::slot::Wait;
 use crate::state::IndexState;
 use cml_channel::Tally;
 use cml_scan::Light;
-use cml_value::{Group, Tid};
+use cml_value::{Group, GroupKind, Tid};
 use std::alloc::{AllocError, Global};
 
 impl IndexState {
@@ -33,6 +34,22 @@ impl IndexState {
         }
     }
 
+    // Tells of the lights. Those that are told to be lit have their places. It takes no memory.
+    #[inline(always)]
+    fn tell_both(&mut self, lit: &[Light], unlit: &[Light], tally: &mut Tally)
+        requires indexed { IsIndexed self.old }
+        requires named { spec.HavePlaces self.old.flags.entries lit.now }
+        ensures indexed { IsIndexed self.new }
+        ensures still { IsStill self.old self.new }
+        ensures lights { (l : Light) → spec.told self.new.flags.entries l
+            ≡ lit_after lit.now unlit.now l (spec.told self.old.flags.entries l) }
+        ensures kept { spec.KeepsPlaces self.old.flags.entries self.new.flags.entries }
+        ensures cost { tally.new ≤ tally.old + (length lit.now + length unlit.now) }
+    {
+        self.tell_all(unlit, false, tally);
+        self.tell_all(lit, true, tally);
+    }
+
     // Tells of the lights, and then takes out the threads that go. Lights that are told to be lit have their places. It takes no memory.
     fn tell_and_leave(&mut self, gone: &[Tid], lit: &[Light], unlit: &[Light], tally: &mut Tally)
         requires indexed { IsIndexed self.old }
@@ -46,8 +63,7 @@ impl IndexState {
             + self.old.leaves * (digits + 2) + (length lit.now + length unlit.now) }
         ensures freed { HasFreed self.old self.new }
     {
-        self.tell_all(unlit, false, tally);
-        self.tell_all(lit, true, tally);
+        self.tell_both(lit, unlit, tally);
         self.leave_all(gone, tally);
     }
 
@@ -115,8 +131,9 @@ impl IndexState {
         Ok(())
     }
 
-    // Makes a change in which the thread comes, with its group.
-    pub(crate) fn leave_and_come(
+    // Makes a change in which the thread comes, with its group, whatever that is.
+    #[inline(never)]
+    fn leave_and_enter(
         &mut self,
         alloc: Global,
         gone: &[Tid],
@@ -147,6 +164,99 @@ impl IndexState {
         self.enter(entry, tally);
         self.forget_all(unlit);
         Ok(())
+    }
+
+    // Makes room for the lights that will be told to be lit, and puts in the thread, whose group is one leaf that waits for this. Out of
+    // memory: nothing was told, and nothing was looked at.
+    #[inline(always)]
+    fn place_lone(
+        &mut self,
+        alloc: Global,
+        comer: (Tid, &Group),
+        wait: Wait,
+        lit: &[Light],
+        tally: &mut Tally,
+    ) -> Result<(), AllocError>
+        requires indexed { IsIndexed self.old }
+        requires idle { IsAtRest self.old }
+        requires lone { IsLone comer.1.now wait }
+        requires new { All (λ e. e.thread ≢ comer.0.0) self.old.entries.items }
+        ensures indexed { IsIndexed self.new }
+        ensures idle { IsAtRest self.new }
+        ensures told { (l : Light) → spec.told self.new.flags.entries l ≡ spec.told self.old.flags.entries l }
+        ensures entries { OnOk result (self.new.entries.items ≡ with_entry
+            (record { thread = comer.entry.0.0; group = comer.entry.1.now }) self.old.entries.items) }
+        ensures leaves { OnOk result (self.new.leaves ≡ self.old.leaves + 1) }
+        ensures named { OnOk result (spec.HavePlaces self.new.flags.entries lit.now) }
+        ensures none { OnErr result (self.new.entries.items ≡ self.old.entries.items) }
+        ensures cost { (digits : ℕ) → HaveDigits self.old.lanes digits → tally.new ≤ tally.old + (digits + 2) }
+        ensures still { OnErr result (tally.new ≡ tally.old) }
+    {
+        reserve_lights(&mut self.flags, lit)?;
+        self.make_place(wait)?;
+        self.enter_lone(alloc, comer.0, comer.1, wait, tally)
+    }
+
+    // Makes a change in which nobody goes, and the thread comes with its group, which is one leaf that waits for this.
+    #[inline(always)]
+    fn come_lone(
+        &mut self,
+        alloc: Global,
+        comer: (Tid, &Group),
+        wait: Wait,
+        lit: &[Light],
+        unlit: &[Light],
+        tally: &mut Tally,
+    ) -> Result<(), AllocError>
+        requires indexed { IsIndexed self.old }
+        requires idle { IsAtRest self.old }
+        requires lone { IsLone comer.1.now wait }
+        requires new { All (λ e. e.thread ≢ comer.0.0) self.old.entries.items }
+        requires apart { AreApart lit.now unlit.now }
+        ensures indexed { IsIndexed self.new }
+        ensures idle { IsAtRest self.new }
+        ensures told { spec.HasTold result
+            (with_entry (record { thread = comer.entry.0.0; group = comer.entry.1.now }) self.old.entries.items)
+            lit.now unlit.now (seen self.old) (seen self.new) tally.old tally.new }
+        ensures cost { OnOk result ((digits : ℕ) → HaveDigits self.old.lanes digits →
+            tally.new + self.new.leaves * (digits + 2) ≤ tally.old
+            + (self.old.leaves + 2) * (digits + 2) + (length lit.now + length unlit.now)) }
+    {
+        self.place_lone(alloc, comer, wait, lit, tally)?;
+        self.tell_both(lit, unlit, tally);
+        self.forget_all(unlit);
+        Ok(())
+    }
+
+    // Makes a change in which the thread comes, with its group.
+    pub(crate) fn leave_and_come(
+        &mut self,
+        alloc: Global,
+        gone: &[Tid],
+        comer: (Tid, &Group),
+        lit: &[Light],
+        unlit: &[Light],
+        tally: &mut Tally,
+    ) -> Result<(), AllocError>
+        requires indexed { IsIndexed self.old }
+        requires idle { IsAtRest self.old }
+        requires ready { CanChange self.old.entries.items gone.now (Some comer) lit.now unlit.now }
+        ensures indexed { IsIndexed self.new }
+        ensures idle { IsAtRest self.new }
+        ensures told { spec.HasTold result
+            (changed self.old.entries.items gone.now (Some comer.entry))
+            lit.now unlit.now (seen self.old) (seen self.new) tally.old tally.new }
+        ensures cost { OnOk result ((digits : ℕ) → HaveDigits self.old.lanes digits →
+            tally.new + self.new.leaves * (digits + 2) ≤ tally.old
+            + (self.old.leaves + 2 * length (bases comer.entry.1.now)) * (digits + 2)
+            + (length lit.now + length unlit.now)) }
+    {
+        if gone.is_empty() {
+            if let GroupKind::Leaf(base) = comer.1.kind() {
+                return self.come_lone(alloc, comer, Wait::of(base), lit, unlit, tally);
+            }
+        }
+        self.leave_and_enter(alloc, gone, comer, lit, unlit, tally)
     }
 
     // Makes room for the entry that will come, and for the lights that will be told to be lit. Nothing was told.

@@ -28,6 +28,27 @@ impl Seat {
     {
         self.entry.as_ref()
     }
+
+    // Puts the entry in. Only where one is there is there anything to be given up, and that is done apart.
+    #[inline(always)]
+    fn put(&mut self, entry: Entry)
+        ensures { self.new ≡ record self.old { entry = Some entry } }
+    {
+        match &self.entry {
+            Some(_) => self.give_up(entry),
+            None => {
+                self.entry = Some(entry);
+            }
+        }
+    }
+
+    // Puts the entry in, and gives up the one that was there.
+    #[inline(never)]
+    fn give_up(&mut self, entry: Entry)
+        ensures { self.new ≡ record self.old { entry = Some entry } }
+    {
+        self.entry = Some(entry);
+    }
 }
 
 // The pending threads, ascending, each in its seat. Seats of threads that have gone are kept while they are not too many.
@@ -100,6 +121,7 @@ impl Entries {
     }
 
     // The thread with its group, if it is pending.
+    #[inline(always)]
     pub(crate) fn get(&self, tid: Tid) -> Option<&Entry>
         ensures { spec.IsEntryOf tid self.now.items result }
     {
@@ -117,6 +139,7 @@ impl Entries {
     }
 
     // Makes room for one more.
+    #[inline(always)]
     pub(crate) fn reserve(&mut self) -> Result<(), AllocError>
         ensures items { self.new.items ≡ self.old.items }
         ensures room { OnOk result (0 < self.new.room) }
@@ -125,6 +148,7 @@ impl Entries {
     }
 
     // Adds the thread. It takes no memory.
+    #[inline(always)]
     pub(crate) fn put(&mut self, entry: Entry)
         requires new { All (λ e. e.thread ≢ entry.thread) self.old.items }
         requires room { 0 < self.old.room }
@@ -142,6 +166,7 @@ impl Entries {
     }
 
     // Takes the thread out.
+    #[inline(always)]
     pub(crate) fn take(&mut self, tid: Tid) -> Entry
         requires { IsThere self.old.items tid }
         ensures items { self.new.items ≡ without (tid ∷ []) self.old.items }
@@ -177,16 +202,18 @@ fn has_seat(seats: &[Seat], at: usize, tid: Tid) -> bool
 }
 
 // Puts the entry in the seat at this place, in which there is none.
+#[inline(always)]
 fn fill(seats: &mut Vec<Seat>, at: usize, entry: Entry)
     requires { at < length seats.old.items }
     ensures seats { (d : Seat) → seats.new.items ≡ slice_set seats.old.items at
         (record { tid = (get_or seats.old.items at d).tid; entry = Some entry }) }
 {
-    let was = seats[at].entry.replace(entry);
-    drop(was);
+    let seat = &mut seats[at];
+    seat.put(entry);
 }
 
 // Takes the entry from the seat at this place, if there is one.
+#[inline(always)]
 fn vacate(seats: &mut Vec<Seat>, at: usize) -> Option<Entry>
     requires { at < length seats.old.items }
     ensures seats { (d : Seat) → seats.new.items ≡ slice_set seats.old.items at
@@ -208,6 +235,7 @@ fn remove_empty(seats: &mut Vec<Seat>)
 }
 
 // Puts the seat in its place. It takes no memory.
+#[inline(never)]
 fn insert_in_room(seats: &mut Vec<Seat>, at: usize, seat: Seat)
     requires within { at ≤ length seats.old.items }
     requires room { vec_len seats.old < vec_capacity seats.old }

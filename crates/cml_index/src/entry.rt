@@ -2,7 +2,7 @@
 
 ghost use Rattle.std.specs.Prelude.{◌≡◌, ◌≤◌, ◌<◌, ◌^◌, ◌++◌, ◌∷◌, [], length, map, IfOk};
 ghost use Rattle.cml_value.specs.Group.{bases, scopes, nacks_of};
-ghost use Rattle.cml_index.specs.{Posts.{slot_of}, Slots.{slot_in}, Waits.{leaf_wait}};
+ghost use Rattle.cml_index.specs.{Posts.{slot_of}, Slots.{slot_in}, Waits.{leaf_wait, IsLone}};
 
 use crate::slot::Wait;
 use cml_scan::Place;
@@ -23,11 +23,27 @@ struct PendingThread {
     nacks: Vec<u32>,
 }
 
-// A pending thread, and what is kept of its group: what its leaves wait for, and the nacks of its scopes. It is one pointer, so that
-// seats are small: a thread that has no seat moves all seats after its place.
+// A pending thread whose group is one leaf, and so has no scope.
+#[derive(Drop)]
+struct LoneThread {
+    tid: Tid,
+    // the group, as above
+    group: Snapshot<Group>,
+    // what its leaf waits for
+    waits: [Wait; 1],
+}
+
+// What is kept of a pending thread: lies in its seat where the group is one leaf, and apart where it is not.
+#[derive(Drop)]
+enum Post {
+    Lone(LoneThread),
+    Listed(Box<PendingThread>),
+}
+
+// A pending thread, and what is kept of its group: what its leaves wait for, and the nacks of its scopes.
 #[derive(Drop)]
 pub(crate) struct Entry {
-    post: Box<PendingThread>,
+    post: Post,
 }
 
 // The lists of a thread that has gone, for the next that comes.
@@ -38,7 +54,7 @@ pub(crate) struct Spare {
 
 impl Model for Entry {
     ghost use Rattle.cml_scan.specs.{World.{PlainEntry}, Codes.{entry_code}};
-    ghost use Rattle.cml_index.specs.Waits.{IsPost};
+    ghost use Rattle.cml_index.specs.{Entry.{plain_post, post_waits, post_nacks}, Waits.{IsPost}};
     ghost use Rattle.cml_value.specs.Group.{scopes, nacks_of};
     ghost use Rattle.std.specs.Prelude.{◌≡◌};
 
@@ -46,10 +62,10 @@ impl Model for Entry {
 
     ghost coded = { entry_code };
 
-    ghost view = { λ e. record { thread = e.post.value.tid.0; group = e.post.value.group.value } };
+    ghost view = { λ e. plain_post e.post };
 
-    ghost invariant = { λ e. (IsPost e.post.value.group.value e.post.value.waits.items)
-        × (e.post.value.nacks.items ≡ nacks_of (scopes e.post.value.group.value)) };
+    ghost invariant = { λ e. (IsPost (plain_post e.post).group (post_waits e.post))
+        × (post_nacks e.post ≡ nacks_of (scopes (plain_post e.post).group)) };
 }
 
 // An entry is kept for another thread only if its lists have room for at most this many.
@@ -138,6 +154,18 @@ fn refill(post: &mut PendingThread, tid: Tid, group: &Group) -> Result<(), Alloc
     list(&mut post.waits, &mut post.nacks, group)
 }
 
+// Keeps the lists for the next thread that comes, where there is room, and they have room for at most `SHORT` leaves and as many nacks. Longer
+// lists would hold memory that no thread needs.
+#[inline(never)]
+fn keep(spares: &mut Vec<Spare>, post: Box<PendingThread>) {
+    let is_short = post.waits.capacity() <= SHORT && post.nacks.capacity() <= SHORT;
+    if spares.len() < spares.capacity() && is_short {
+        spares.push_reserved(Spare { post });
+    } else {
+        drop(post);
+    }
+}
+
 impl Spare {
     // The entry of this thread and this group, in these lists.
     pub(crate) fn renew(self, tid: Tid, group: &Group) -> Result<Entry, AllocError>
@@ -145,7 +173,9 @@ impl Spare {
     {
         let mut post = self.post;
         match refill(&mut post, tid, group) {
-            Ok(()) => Ok(Entry { post }),
+            Ok(()) => Ok(Entry {
+                post: Post::Listed(post),
+            }),
             Err(error) => {
                 drop(post);
                 Err(error)
@@ -169,25 +199,42 @@ impl Entry {
             nacks,
         };
         Ok(Entry {
-            post: Box::new(alloc, post)?,
+            post: Post::Listed(Box::new(alloc, post)?),
         })
     }
 
-    // Whether its lists have room for at most `SHORT` leaves and as many nacks. Longer lists would hold memory that no
-    // thread needs.
-    pub(crate) fn is_short(&self) -> bool {
-        self.post.waits.capacity() <= SHORT && self.post.nacks.capacity() <= SHORT
+    // The entry of this thread and this group, which is one leaf that waits for this. It takes no memory.
+    #[inline(always)]
+    pub(crate) fn lone(tid: Tid, group: &Group, wait: Wait) -> Entry
+        requires { IsLone group.now wait }
+        ensures { result ≡ record { thread = tid.0; group = group.now } }
+    {
+        Entry {
+            post: Post::Lone(LoneThread {
+                tid,
+                group: Snapshot::of(group),
+                waits: [wait],
+            }),
+        }
     }
 
-    // Its lists, for the next thread that comes.
-    pub(crate) fn rest(self) -> Spare {
-        Spare { post: self.post }
+    // Keeps its lists for the next thread that comes, where it has some, there is room, and they are short.
+    #[inline(always)]
+    pub(crate) fn rest_in(self, spares: &mut Vec<Spare>) {
+        match self.post {
+            Post::Lone(lone) => drop(lone),
+            Post::Listed(post) => keep(spares, post),
+        }
     }
 
+    #[inline(always)]
     pub(crate) fn tid(&self) -> Tid
         ensures { result.0 ≡ self.now.thread }
     {
-        self.post.tid
+        match &self.post {
+            Post::Lone(lone) => lone.tid,
+            Post::Listed(post) => post.tid,
+        }
     }
 
     // The place of the leaf.
@@ -196,9 +243,9 @@ impl Entry {
         ensures { result ≡ record { tid = record { 0 = self.now.thread }; leaf = leaf } }
     {
         // No effect: named here so that the prover knows what holds of it.
-        let _waits = &self.post.waits;
+        let _waits = self.waits();
         Place {
-            tid: self.post.tid,
+            tid: self.tid(),
             leaf: leaf as u32,
         }
     }
@@ -207,16 +254,23 @@ impl Entry {
     pub(crate) fn nacks(&self) -> &[u32]
         ensures { result.now ≡ nacks_of (scopes self.now.group) }
     {
-        &self.post.nacks
+        match &self.post {
+            Post::Lone(_) => &[],
+            Post::Listed(post) => &post.nacks,
+        }
     }
 
     // What the leaves wait for, from the left.
+    #[inline(always)]
     pub(crate) fn waits(&self) -> &[Wait]
         ensures same { result.now ≡ map leaf_wait (bases self.now.group) }
         ensures slots { map slot_in result.now ≡ map slot_of (bases self.now.group) }
         ensures many { length result.now ≡ length (bases self.now.group) }
         ensures small { length result.now < 4294967296 }
     {
-        &self.post.waits
+        match &self.post {
+            Post::Lone(lone) => &lone.waits,
+            Post::Listed(post) => &post.waits,
+        }
     }
 }

@@ -1,6 +1,6 @@
 //! What was told of lights.
 
-ghost use Rattle.std.specs.Prelude.{◌≡◌, ◌≤◌, ◌+◌, ◌*◌, [], true, false, not, if◌then◌else◌, length, filter, OnOk, IsOk};
+ghost use Rattle.std.specs.Prelude.{◌≡◌, ◌≤◌, ◌+◌, ◌*◌, [], ◌∷◌, true, false, not, if◌then◌else◌, length, filter, OnOk, IsOk};
 ghost use Rattle.cml_scan.specs.{declared.object.Light.{Light}, Table.{same_light}};
 ghost use Rattle.cml_index.specs.{declared.slot.Slot.{Slot}, Slot.{same_slot}, Waits.{lit_wait}, declared.slot.Slot.TheVariants.{Waiters}};
 ghost use Rattle.cml_index.specs.Posts as spec;
@@ -80,7 +80,17 @@ pub(crate) fn count_lit(flags: &Flags, waits: &[Wait], tally: &mut Tally) -> usi
     count
 }
 
-// The same, where it is known that not more than this many can be: where that is 0, no leaf is looked at.
+// The same, of the one leaf of a group.
+#[inline(always)]
+pub(crate) fn count_lone(flags: &Flags, wait: &Wait, tally: &mut Tally) -> usize
+    ensures count { result ≡ length (filter (lit_wait (spec.told flags.now.entries)) (wait.now ∷ [])) }
+    ensures cost { tally.new ≤ tally.old + 2 }
+{
+    tally.add();
+    if is_lit_by(flags, *wait, tally) { 1 } else { 0 }
+}
+
+// The same as `count_lit`, where it is known that not more than this many can be: where that is 0, no leaf is looked at.
 #[inline(always)]
 pub(crate) fn count_lit_within(
     most: usize,

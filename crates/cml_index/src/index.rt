@@ -1,8 +1,9 @@
 //! The index.
 
-ghost use Rattle.std.specs.Prelude.{◌≡◌, ◌≤◌, ◌<◌, ◌+◌, ◌*◌, [], ℕ, length, filter, All, Some, slice_get, OnOk, IfOk, IsOk, IsNone};
+ghost use Rattle.std.specs.Prelude.{◌≡◌, ◌≤◌, ◌<◌, ◌+◌, ◌*◌, [], ℕ, length, filter, All, Some, slice_get, OnOk, IfOk, IfErr, IsOk, IsNone};
 ghost use Rattle.cml_scan.specs.{Light.{lit_by}, Order.{before, place, is_lit_there, meet_at, base_at}};
 ghost use Rattle.cml_scan.specs.{Scan.{scan_of, has_row, offers_of, heads_of, partners_of}, Table.{changed, CanChange, IsNackOf, nacks_among}};
+ghost use Rattle.cml_index.specs.Heads.{IsOnlyRow};
 ghost use Rattle.cml_index.specs.Posts as spec;
 
 use crate::entries::Entries;
@@ -202,6 +203,32 @@ impl OfferIndex {
             tally.new ≤ tally.old + (2 * digits + 2) }
     {
         partners::partner(&self.core, head, j, tally)
+    }
+
+    /// The head at this place in their order; or its row, where it is known at once that no other row begins with it. It counts what it looks
+    /// at: at most three for each leaf, and two.
+    pub fn head_or_row_tallied(&self, k: usize, tally: &mut Tally) -> Result<Meet, Place>
+        requires { k < length (heads_of (scan_of self.now.entries (spec.told self.now.flags))) }
+        ensures row { IfOk result (λ row. IsOnlyRow (scan_of self.now.entries (spec.told self.now.flags)) k row) }
+        ensures head { IfErr result (λ head. slice_get
+            (heads_of (scan_of self.now.entries (spec.told self.now.flags))) k ≡ Some head) }
+        ensures cost { tally.new ≤ tally.old + (3 * length (offers_of self.now.entries) + 2) }
+    {
+        let head = self.head_tallied(k, tally);
+        match partners::only_row_of(&self.core, head, tally) {
+            Some(row) => Ok(row),
+            None => Err(head),
+        }
+    }
+
+    /// The head at this place in their order; or its row, where it is known at once that no other row begins with it.
+    pub fn head_or_row(&self, k: usize) -> Result<Meet, Place>
+        requires { k < length (heads_of (scan_of self.now.entries (spec.told self.now.flags))) }
+        ensures row { IfOk result (λ row. IsOnlyRow (scan_of self.now.entries (spec.told self.now.flags)) k row) }
+        ensures head { IfErr result (λ head. slice_get
+            (heads_of (scan_of self.now.entries (spec.told self.now.flags))) k ≡ Some head) }
+    {
+        self.head_or_row_tallied(k, &mut Tally::new())
     }
 
     // All rows, in order.

@@ -4,16 +4,17 @@ ghost use Rattle.std.specs.Prelude.{◌≡◌, ◌≤◌, ◌<◌, ◌+◌, ◌*
 ghost use Rattle.std.specs.{Borrow.{sem}, Option.{option_copied}};
 ghost use Rattle.cml_scan.specs.Order.{Every, Ascends, before};
 ghost use Rattle.cml_channel.specs.{Lanes.{is_own, is_others, others, with_run}, declared.pairing.PairedKind.TheVariants.{Swap}};
-ghost use Rattle.cml_index.specs.{declared.slot.Slot.{Slot}, declared.slot.Slot.TheVariants.{Waiters}, Slot.{same_slot}, Slots.{slot_in}};
+ghost use Rattle.cml_index.specs.{declared.slot.Slot.{Slot}, declared.slot.Slot.TheVariants.{Side, Waiters}, Slot.{same_slot}, Slots.{slot_in}};
 ghost use Rattle.cml_index.specs.Slots as spec;
 ghost use Rattle.cml_index.specs.Stands as stands;
 
 use crate::slot::{LaneKind, Slot, Spot, Wait, spot_of_light};
 use crate::stand::{
-    LaneState, Ticks, come_in, come_tick, count_in, count_tick, forget_tick, forgo_in, forgo_tick,
-    go_in, go_tick, note_in, note_tick,
+    LaneState, Ticks, come_in, come_lone_in, come_lone_tick, come_tick, count_in, count_tick,
+    forget_tick, forgo_in, forgo_tick, go_in, go_lone_in, go_lone_tick, go_tick, note_in,
+    note_tick,
 };
-use cml_channel::{Lane, PairedKind, Tally};
+use cml_channel::{Lane, PairedId, PairedKind, Tally};
 use cml_scan::Light;
 use cml_value::Tid;
 use indexmap::IndexMap;
@@ -208,6 +209,17 @@ impl Lanes {
         }
     }
 
+    // How many offers stand on one side of the object.
+    #[inline(always)]
+    pub(crate) fn side_len(&self, object: PairedId, heads: bool) -> usize
+        ensures { result ≡ length (spec.lane_at self.now (Side heads object)) }
+    {
+        match self.side(object.kind, heads).get(object.number as usize) {
+            Some(stand) => stand.lane.len(),
+            None => 0,
+        }
+    }
+
     // How many offers stand in the lane.
     #[inline(always)]
     pub(crate) fn len(&self, slot: Slot) -> usize
@@ -388,6 +400,103 @@ impl Lanes {
         }
     }
 
+    // Puts the only leaf of the thread into the lane, which is made if it is not there yet. Out of memory: no offer is there that was not.
+    #[inline(always)]
+    fn come_lone_at(
+        &mut self,
+        alloc: Global,
+        slot: &Slot,
+        tid: Tid,
+        tally: &mut Tally,
+    ) -> Result<(), AllocError>
+        requires { Every (is_others tid) (spec.lane_at self.old slot.now) }
+        ensures here { stands.ComesLone result tid (stands.stand_at self.old slot.now) (stands.stand_at self.new slot.now) }
+        ensures elsewhere { (k : Slot) → same_slot k slot.now ≡ false →
+            stands.IsAlike (stands.stand_at self.new k) (stands.stand_at self.old k) }
+        ensures cost { (digits : ℕ) → length (spec.lane_at self.old slot.now) < 2 ^ digits →
+            tally.new ≤ tally.old + digits }
+        ensures still { OnErr result (tally.new ≡ tally.old) }
+    {
+        match slot {
+            Slot::Side { heads, object } => come_lone_in(
+                self.side_mut(object.kind, *heads),
+                alloc,
+                object.number as usize,
+                tid,
+                tally,
+            ),
+            Slot::Waiters(light) => self.come_lone_waiter(alloc, light, tid, tally),
+        }
+    }
+
+    // The same at the lane of those who wait for the light.
+    #[inline(never)]
+    fn come_lone_waiter(
+        &mut self,
+        alloc: Global,
+        light: &Light,
+        tid: Tid,
+        tally: &mut Tally,
+    ) -> Result<(), AllocError>
+        requires { Every (is_others tid) (spec.lane_at self.old (Waiters light.now)) }
+        ensures here { stands.ComesLone result tid (stands.stand_at self.old (Waiters light.now))
+            (stands.stand_at self.new (Waiters light.now)) }
+        ensures elsewhere { (k : Slot) → same_slot k (Waiters light.now) ≡ false →
+            stands.IsAlike (stands.stand_at self.new k) (stands.stand_at self.old k) }
+        ensures cost { (digits : ℕ) → length (spec.lane_at self.old (Waiters light.now)) < 2 ^ digits →
+            tally.new ≤ tally.old + digits }
+        ensures still { OnErr result (tally.new ≡ tally.old) }
+    {
+        match spot_of_light(*light) {
+            Spot::Listed { row, number } => {
+                come_lone_in(self.row_mut(row), alloc, number as usize, tid, tally)
+            }
+            Spot::Tick(tick) => come_lone_tick(&mut self.ticks, alloc, tick, tid, tally),
+        }
+    }
+
+    // Takes the only leaf of the thread out of the lane.
+    #[inline(always)]
+    fn go_lone_at(&mut self, slot: &Slot, tid: Tid, tally: &mut Tally)
+        requires { length (filter (is_own tid) (spec.lane_at self.old slot.now)) ≡ 1 }
+        ensures here { stands.GoesLone tid (stands.stand_at self.old slot.now) (stands.stand_at self.new slot.now) }
+        ensures elsewhere { (k : Slot) → same_slot k slot.now ≡ false →
+            stands.stand_at self.new k ≡ stands.stand_at self.old k }
+        ensures cost { (digits : ℕ) → length (spec.lane_at self.old slot.now) < 2 ^ digits → tally.new ≤ tally.old + digits }
+    {
+        match slot {
+            Slot::Side { heads, object } => go_lone_in(
+                self.side_mut(object.kind, *heads),
+                object.number as usize,
+                tid,
+                tally,
+            ),
+            Slot::Waiters(light) => self.go_lone_waiter(light, tid, tally),
+        }
+    }
+
+    // The same at the lane of those who wait for the light.
+    #[inline(never)]
+    fn go_lone_waiter(&mut self, light: &Light, tid: Tid, tally: &mut Tally)
+        requires { length (filter (is_own tid) (spec.lane_at self.old (Waiters light.now))) ≡ 1 }
+        ensures here { stands.GoesLone tid (stands.stand_at self.old (Waiters light.now))
+            (stands.stand_at self.new (Waiters light.now)) }
+        ensures elsewhere { (k : Slot) → same_slot k (Waiters light.now) ≡ false →
+            stands.stand_at self.new k ≡ stands.stand_at self.old k }
+        ensures cost { (digits : ℕ) → length (spec.lane_at self.old (Waiters light.now)) < 2 ^ digits →
+            tally.new ≤ tally.old + digits }
+    {
+        match spot_of_light(*light) {
+            Spot::Listed { row, number } => go_lone_in(
+                self.row_mut(row),
+                number as usize,
+                tid,
+                tally,
+            ),
+            Spot::Tick(tick) => go_lone_tick(&mut self.ticks, tick, tid, tally),
+        }
+    }
+
     // Puts the noted leaves into the lane, if there is one.
     fn come_of(&mut self, slot: Option<&Slot>, tid: Tid, tally: &mut Tally)
         requires { (k : Slot) → spec.is_slot k (option_copied slot) ≡ true → stands.CanCome tid (stands.stand_at self.old k) }
@@ -542,8 +651,72 @@ impl Lanes {
         }
     }
 
+    // Puts the only leaf of the thread, which waits for this, into its lane, if it waits in one. Out of memory: no offer is there that was not.
+    #[inline(always)]
+    pub(crate) fn come_lone(
+        &mut self,
+        alloc: Global,
+        tid: Tid,
+        wait: &Wait,
+        tally: &mut Tally,
+    ) -> Result<(), AllocError>
+        requires sorted { (k : Slot) → Ascends before (spec.lane_at self.old k) }
+        requires new { (k : Slot) → Every (is_others tid) (spec.lane_at self.old k) }
+        ensures lanes { OnOk result ((k : Slot) → spec.lane_at self.new k
+            ≡ with_run tid (spec.slot_leaves k 0 (slot_in wait.now ∷ [])) (spec.lane_at self.old k)) }
+        ensures none { OnErr result ((k : Slot) → spec.lane_at self.new k ≡ spec.lane_at self.old k) }
+        ensures late { (k : Slot) → spec.late_at self.new k ≡ spec.late_at self.old k }
+        ensures going { (k : Slot) → spec.going_at self.new k ≡ spec.going_at self.old k }
+        ensures cost { (digits : ℕ) → spec.HaveDigits self.old digits → tally.new ≤ tally.old + digits }
+        ensures still { OnErr result (tally.new ≡ tally.old) }
+    {
+        match wait.slot_ref() {
+            Some(slot) => self.come_lone_at(alloc, slot, tid, tally),
+            None => Ok(()),
+        }
+    }
+
+    // Takes the only leaf of the thread, which waits for this, out of its lane, if it stands in one.
+    #[inline(always)]
+    fn go_lone(&mut self, tid: Tid, wait: &Wait, tally: &mut Tally)
+        requires idle { (k : Slot) → spec.going_at self.old k ≡ 0 }
+        requires all { (k : Slot) → length (spec.slot_leaves k 0 (slot_in wait.now ∷ []))
+            ≡ length (filter (is_own tid) (spec.lane_at self.old k)) }
+        ensures lanes { (k : Slot) → spec.lane_at self.new k
+            ≡ others tid (spec.lane_at self.old k) }
+        ensures late { (k : Slot) → spec.late_at self.new k ≡ spec.late_at self.old k }
+        ensures room { (k : Slot) → spec.room_at self.old k ≤ spec.room_at self.new k }
+        ensures going { (k : Slot) → spec.going_at self.new k ≡ 0 }
+        ensures cost { (digits : ℕ) → spec.HaveDigits self.old digits → tally.new ≤ tally.old + digits }
+    {
+        match wait.slot_ref() {
+            Some(slot) => self.go_lone_at(slot, tid, tally),
+            None => {}
+        }
+    }
+
     // Takes these leaves of the thread, which are all its offers, out of their lanes.
     pub(crate) fn go(&mut self, tid: Tid, waits: &[Wait], tally: &mut Tally)
+        requires idle { (k : Slot) → spec.going_at self.old k ≡ 0 }
+        requires all { (k : Slot) → length (spec.slot_leaves k 0 (map slot_in waits.now))
+            ≡ length (filter (is_own tid) (spec.lane_at self.old k)) }
+        ensures lanes { (k : Slot) → spec.lane_at self.new k
+            ≡ others tid (spec.lane_at self.old k) }
+        ensures late { (k : Slot) → spec.late_at self.new k ≡ spec.late_at self.old k }
+        ensures room { (k : Slot) → spec.room_at self.old k ≤ spec.room_at self.new k }
+        ensures going { (k : Slot) → spec.going_at self.new k ≡ 0 }
+        ensures cost { (digits : ℕ) → spec.HaveDigits self.old digits →
+            tally.new ≤ tally.old + length waits.now * digits }
+    {
+        match waits {
+            [wait] => self.go_lone(tid, wait, tally),
+            _ => self.go_many(tid, waits, tally),
+        }
+    }
+
+    // The same, however many they are.
+    #[inline(never)]
+    fn go_many(&mut self, tid: Tid, waits: &[Wait], tally: &mut Tally)
         requires idle { (k : Slot) → spec.going_at self.old k ≡ 0 }
         requires all { (k : Slot) → length (spec.slot_leaves k 0 (map slot_in waits.now))
             ≡ length (filter (is_own tid) (spec.lane_at self.old k)) }

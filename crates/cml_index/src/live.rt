@@ -1,6 +1,6 @@
 //! The objects on which two offers may meet: with offers on both sides, or with two where all sides are alike.
 
-ghost use Rattle.std.specs.{Prelude.{◌≡◌, ◌≤◌, ◌<◌, ◌^◌, ◌&&◌, ◌||◌, [], true, false, length, map, slice_get, Some, OnOk}, List.{IsDistinct}};
+ghost use Rattle.std.specs.{Prelude.{◌≡◌, ◌≤◌, ◌<◌, ◌^◌, ◌&&◌, ◌||◌, [], ◌∷◌, true, false, length, map, slice_get, Some, OnOk}, List.{IsDistinct}};
 ghost use Rattle.cml_channel.specs.{Pairings.{same_object, one_lane}, declared.pairing.PairedId.{PairedId}};
 ghost use Rattle.cml_index.specs.{declared.slot.Slot.{Slot}, Slots.{slot_in}};
 ghost use Rattle.cml_index.specs.Live as spec;
@@ -19,32 +19,24 @@ pub(crate) struct Live {
     pub(crate) swaps: Numbers,
 }
 
-// Whether two offers on the object may meet. Where its first lane has no head, the other lane is not looked up.
-fn is_live(lanes: &Lanes, object: PairedId) -> bool
-    ensures { result ≡ spec.is_live lanes.now object }
-{
-    let heads = lanes.len(Slot::Side {
-        heads: true,
-        object,
-    });
-    if object.kind.one_lane() {
-        return 1 < heads;
-    }
-    let others = Slot::Side {
-        heads: false,
-        object,
-    };
-    0 < heads && 0 < lanes.len(others)
-}
-
 // How many offers can stand first on the object.
+#[inline(always)]
 fn head_len(lanes: &Lanes, object: PairedId) -> usize
     ensures { result ≡ spec.heads_at lanes.now object }
 {
-    lanes.len(Slot::Side {
-        heads: true,
-        object,
-    })
+    lanes.side_len(object, true)
+}
+
+// Whether two offers on the object may meet, on which this many can stand first. Where none can, the other lane is not looked up.
+#[inline(always)]
+fn is_live(lanes: &Lanes, object: PairedId, heads: usize) -> bool
+    requires { heads ≡ spec.heads_at lanes.now object }
+    ensures { result ≡ spec.is_live lanes.now object }
+{
+    if object.kind.one_lane() {
+        return 1 < heads;
+    }
+    0 < heads && 0 < lanes.side_len(object, false)
 }
 
 impl Live {
@@ -111,6 +103,7 @@ impl Live {
     }
 
     // Reserves a place for the object, so that it can be put in.
+    #[inline(always)]
     fn make(&mut self, object: PairedId) -> Result<(), AllocError>
         ensures same { spec.IsAsLive self.old self.new }
         ensures there { OnOk result (spec.HasPlace self.new object) }
@@ -154,6 +147,7 @@ impl Live {
     }
 
     // Takes the object out if it is live no longer, and counts it anew if it still is. One that is not in stays out, and no lane is looked up.
+    #[inline(always)]
     fn cut(&mut self, lanes: &Lanes, object: PairedId)
         ensures here { spec.is_in self.new object
             ≡ (spec.is_in self.old object && spec.is_live lanes.now object) }
@@ -165,8 +159,9 @@ impl Live {
         ensures places { (n : PairedId) → spec.HasPlace self.old n → spec.HasPlace self.new n }
     {
         if self.has(object) {
-            if is_live(lanes, object) {
-                self.put_in(object, head_len(lanes, object));
+            let heads = head_len(lanes, object);
+            if is_live(lanes, object, heads) {
+                self.put_in(object, heads);
             } else {
                 self.take_out(object);
             }
@@ -174,6 +169,7 @@ impl Live {
     }
 
     // Puts the object in where it is live, and counts it; its place is reserved.
+    #[inline(always)]
     fn add(&mut self, lanes: &Lanes, object: PairedId)
         requires { spec.HasPlace self.old object }
         ensures here { spec.is_in self.new object
@@ -185,12 +181,14 @@ impl Live {
             spec.count_at self.new n ≡ spec.count_at self.old n }
         ensures places { (n : PairedId) → spec.HasPlace self.old n → spec.HasPlace self.new n }
     {
-        if is_live(lanes, object) {
-            self.put_in(object, head_len(lanes, object));
+        let heads = head_len(lanes, object);
+        if is_live(lanes, object, heads) {
+            self.put_in(object, heads);
         }
     }
 
     // The same for the object of which the slot is a side: takes it out where it is no longer live.
+    #[inline(always)]
     fn cut_at(&mut self, lanes: &Lanes, slot: Option<Slot>)
         ensures here { (n : PairedId) → spec.has_side n slot ≡ true → spec.is_in self.new n
             ≡ (spec.is_in self.old n && spec.is_live lanes.now n) }
@@ -207,6 +205,7 @@ impl Live {
     }
 
     // The same for the object of which the slot is a side: puts it in where it is live.
+    #[inline(always)]
     fn add_at(&mut self, lanes: &Lanes, slot: Option<Slot>)
         requires { (n : PairedId) → spec.has_side n slot ≡ true → spec.HasPlace self.old n }
         ensures here { (n : PairedId) → spec.has_side n slot ≡ true → spec.is_in self.new n
@@ -225,6 +224,7 @@ impl Live {
     }
 
     // Reserves a place for the object of which the slot is a side.
+    #[inline(always)]
     fn make_at(&mut self, slot: Option<Slot>) -> Result<(), AllocError>
         ensures same { spec.IsAsLive self.old self.new }
         ensures there { OnOk result ((n : PairedId) → spec.has_side n slot ≡ true → spec.HasPlace self.new n) }
@@ -248,7 +248,27 @@ impl Live {
     }
 
     // Brings the live objects up to date once these leaves have gone from their lanes. It takes no memory.
+    #[inline(always)]
     pub(crate) fn cut_all(&mut self, lanes: &Lanes, waits: &[Wait])
+        requires was { (n : PairedId) → spec.have_side n (map slot_in waits.now) ≡ false →
+            spec.is_in self.old n ≡ spec.is_live lanes.now n }
+        requires over { (n : PairedId) → spec.is_live lanes.now n ≡ true →
+            spec.is_in self.old n ≡ true }
+        requires counted { (n : PairedId) → spec.have_side n (map slot_in waits.now) ≡ false →
+            spec.HasItsCount lanes.now self.old n }
+        ensures live { spec.AreLive lanes.now self.new }
+        ensures counted { spec.AreCounted lanes.now self.new }
+        ensures places { (n : PairedId) → spec.HasPlace self.old n → spec.HasPlace self.new n }
+    {
+        match waits {
+            [wait] => self.cut_lone(lanes, wait),
+            _ => self.cut_many(lanes, waits),
+        }
+    }
+
+    // The same, however many they are.
+    #[inline(never)]
+    fn cut_many(&mut self, lanes: &Lanes, waits: &[Wait])
         requires was { (n : PairedId) → spec.have_side n (map slot_in waits.now) ≡ false →
             spec.is_in self.old n ≡ spec.is_live lanes.now n }
         requires over { (n : PairedId) → spec.is_live lanes.now n ≡ true →
@@ -281,5 +301,48 @@ impl Live {
         for wait in waits {
             self.add_at(lanes, wait.slot());
         }
+    }
+
+    // The same as `make_all`, of the one leaf of a group that waits for this.
+    #[inline(always)]
+    pub(crate) fn make_lone(&mut self, wait: &Wait) -> Result<(), AllocError>
+        ensures same { spec.IsAsLive self.old self.new }
+        ensures there { OnOk result ((n : PairedId) →
+            spec.have_side n (slot_in wait.now ∷ []) ≡ true → spec.HasPlace self.new n) }
+    {
+        self.make_at(wait.slot())
+    }
+
+    // The same as `cut_all`, of the one leaf of a group that waits for this.
+    #[inline(always)]
+    pub(crate) fn cut_lone(&mut self, lanes: &Lanes, wait: &Wait)
+        requires was { (n : PairedId) → spec.have_side n (slot_in wait.now ∷ []) ≡ false →
+            spec.is_in self.old n ≡ spec.is_live lanes.now n }
+        requires over { (n : PairedId) → spec.is_live lanes.now n ≡ true →
+            spec.is_in self.old n ≡ true }
+        requires counted { (n : PairedId) → spec.have_side n (slot_in wait.now ∷ []) ≡ false →
+            spec.HasItsCount lanes.now self.old n }
+        ensures live { spec.AreLive lanes.now self.new }
+        ensures counted { spec.AreCounted lanes.now self.new }
+        ensures places { (n : PairedId) → spec.HasPlace self.old n → spec.HasPlace self.new n }
+    {
+        self.cut_at(lanes, wait.slot());
+    }
+
+    // The same as `add_all`, of the one leaf of a group that waits for this.
+    #[inline(always)]
+    pub(crate) fn add_lone(&mut self, lanes: &Lanes, wait: &Wait)
+        requires there { (n : PairedId) → spec.have_side n (slot_in wait.now ∷ []) ≡ true →
+            spec.HasPlace self.old n }
+        requires was { (n : PairedId) → spec.have_side n (slot_in wait.now ∷ []) ≡ false →
+            spec.is_in self.old n ≡ spec.is_live lanes.now n }
+        requires under { (n : PairedId) → spec.is_live lanes.now n ≡ false →
+            spec.is_in self.old n ≡ false }
+        requires counted { (n : PairedId) → spec.have_side n (slot_in wait.now ∷ []) ≡ false →
+            spec.HasItsCount lanes.now self.old n }
+        ensures live { spec.AreLive lanes.now self.new }
+        ensures counted { spec.AreCounted lanes.now self.new }
+    {
+        self.add_at(lanes, wait.slot());
     }
 }

@@ -1,15 +1,15 @@
 //! The rows that one leaf begins, by the lane of those whom it meets.
 
-ghost use Rattle.std.specs.Prelude.{◌≡◌, ◌≤◌, ◌<◌, ◌+◌, ◌*◌, ◌^◌, ℕ, length, slice_get, slice_index_or, Some, None};
-ghost use Rattle.cml_scan.specs.Scan.{scan_of, partners_of, offers_of};
+ghost use Rattle.std.specs.Prelude.{◌≡◌, ◌≤◌, ◌<◌, ◌+◌, ◌*◌, ◌^◌, ℕ, [], ◌∷◌, map, length, slice_get, slice_index_or, Some, None, IfSome};
+ghost use Rattle.cml_scan.specs.Scan.{scan_of, partners_of, offers_of, place_of};
 ghost use Rattle.cml_channel.specs.Lanes.{those};
-ghost use Rattle.cml_index.specs.{Slots.{lane_of}, Waits.{rows_wait}, Cores.{IsIndexed}};
+ghost use Rattle.cml_index.specs.{Heads.{pair_of}, Slots.{lane_of}, Waits.{rows_wait}, Cores.{IsIndexed}};
 ghost use Rattle.cml_index.specs.Posts as spec;
 
 use crate::flags::is_lit_by;
 use crate::slot::{Slot, Wait, met_by};
 use crate::state::{IndexState, wait_at};
-use cml_channel::{PartnerThreads, Tally};
+use cml_channel::{Lane, PartnerThreads, Tally};
 use cml_scan::{Meet, Place};
 
 // How many offers in the lane are of threads that are meant (`partner_threads`).
@@ -97,6 +97,103 @@ fn row_at(core: &IndexState, head: Place, wait: Wait, j: usize, tally: &mut Tall
             tid: head.tid,
             leaf: head.leaf,
         },
+    }
+}
+
+// The row of the leaf with this offer, if it is of a thread that is meant (`partner_threads`).
+#[inline(always)]
+fn row_with(head: Place, other: Place, partner_threads: PartnerThreads) -> Option<Meet>
+    ensures place { IfSome result (λ row. place_of row ≡ head) }
+    ensures only { IfSome result (λ row. map (pair_of head) (those partner_threads (other ∷ [])) ≡ row ∷ []) }
+{
+    if partner_threads.is(other.tid) {
+        Some(Meet::Pair {
+            head: head.tid,
+            head_leaf: head.leaf,
+            other: other.tid,
+            other_leaf: other.leaf,
+        })
+    } else {
+        None
+    }
+}
+
+// The row of the leaf with the only offer in the lane, where there is only one and its thread is meant: one look.
+#[inline(always)]
+fn row_in(
+    lane: &Lane,
+    head: Place,
+    partner_threads: PartnerThreads,
+    tally: &mut Tally,
+) -> Option<Meet>
+    ensures place { IfSome result (λ row. place_of row ≡ head) }
+    ensures only { IfSome result (λ row. map (pair_of head) (those partner_threads lane.now.places) ≡ row ∷ []) }
+    ensures cost { tally.new ≤ tally.old + 1 }
+{
+    if lane.len() == 1 {
+        let other = lane.look(0, tally);
+        row_with(head, other, partner_threads)
+    } else {
+        None
+    }
+}
+
+// The same in the lane of this slot.
+#[inline(always)]
+fn row_at_slot(
+    core: &IndexState,
+    head: Place,
+    slot: Slot,
+    partner_threads: PartnerThreads,
+    tally: &mut Tally,
+) -> Option<Meet>
+    requires { IsIndexed core.now }
+    ensures place { IfSome result (λ row. place_of row ≡ head) }
+    ensures only { IfSome result (λ row. map (pair_of head) (those partner_threads
+        (lane_of spec.slot_of slot (offers_of core.now.entries.items))) ≡ row ∷ []) }
+    ensures cost { tally.new ≤ tally.old + 1 }
+{
+    match core.lanes.lane(slot) {
+        Some(lane) => row_in(lane, head, partner_threads, tally),
+        None => None,
+    }
+}
+
+// The only row that begins with the leaf, which waits for this, where that is known by one look.
+#[inline(always)]
+fn only_row(core: &IndexState, head: Place, wait: Wait, tally: &mut Tally) -> Option<Meet>
+    requires { IsIndexed core.now }
+    ensures place { IfSome result (λ row. place_of row ≡ head) }
+    ensures only { IfSome result (λ row. rows_wait (spec.told core.now.flags.entries)
+        (offers_of core.now.entries.items) head wait ≡ row ∷ []) }
+    ensures cost { tally.new ≤ tally.old + 1 }
+{
+    match met_by(wait, head.tid) {
+        Some((slot, partner_threads)) => row_at_slot(core, head, slot, partner_threads, tally),
+        None => {
+            if is_lit_by(&core.flags, wait, tally) {
+                Some(Meet::Single {
+                    tid: head.tid,
+                    leaf: head.leaf,
+                })
+            } else {
+                None
+            }
+        }
+    }
+}
+
+// The only row that begins with the head, where that is known by two looks.
+pub(crate) fn only_row_of(core: &IndexState, head: Place, tally: &mut Tally) -> Option<Meet>
+    requires { IsIndexed core.now }
+    ensures place { IfSome result (λ row. place_of row ≡ head) }
+    ensures only { IfSome result (λ row. partners_of
+        (scan_of core.now.entries.items (spec.told core.now.flags.entries)) head ≡ row ∷ []) }
+    ensures cost { tally.new ≤ tally.old + 2 }
+{
+    match wait_at(&core.entries, head, tally) {
+        Some(wait) => only_row(core, head, wait, tally),
+        None => None,
     }
 }
 

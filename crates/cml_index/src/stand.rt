@@ -3,7 +3,7 @@
 ghost use Rattle.indexmap.specs.IndexMap.{get};
 ghost use Rattle.std.specs.Prelude.{◌≡◌, ◌≢◌, ◌≤◌, ◌<◌, ◌==◌, ◌+◌, ◌^◌, ℕ, [], ◌∷◌, ◌++◌, true, false, length, filter, nat_lt, slice_get, is_some, OnOk, OnErr};
 ghost use Rattle.cml_scan.specs.Order.{Every, Ascends};
-ghost use Rattle.cml_channel.specs.Lanes.{is_own, is_others};
+ghost use Rattle.cml_channel.specs.Lanes.{is_own, is_others, others, with_run};
 ghost use Rattle.cml_index.specs.Stands as spec;
 
 use cml_channel::{Lane, Tally};
@@ -111,6 +111,38 @@ impl LaneState {
     }
 }
 
+impl LaneState {
+    // Puts in the only leaf of the thread, for which room is made.
+    #[inline(always)]
+    fn come_lone(&mut self, tid: Tid, tally: &mut Tally) -> Result<(), AllocError>
+        requires { Every (is_others tid) self.old.lane.places }
+        ensures lane { OnOk result (self.new.lane.places ≡ with_run tid (0 ∷ []) self.old.lane.places) }
+        ensures none { OnErr result (self.new.lane.places ≡ self.old.lane.places) }
+        ensures kept { OnErr result (self.old.lane.room ≤ self.new.lane.room) }
+        ensures late { self.new.late.items ≡ self.old.late.items }
+        ensures going { self.new.going ≡ self.old.going }
+        ensures cost { (digits : ℕ) → length self.old.lane.places < 2 ^ digits → tally.new ≤ tally.old + digits }
+        ensures still { OnErr result (tally.new ≡ tally.old) }
+    {
+        self.lane.reserve(1)?;
+        self.lane.come(tid, &[0], tally);
+        Ok(())
+    }
+
+    // Takes out the only leaf of the thread.
+    #[inline(always)]
+    fn go_lone(&mut self, tid: Tid, tally: &mut Tally)
+        requires { length (filter (is_own tid) self.old.lane.places) ≡ 1 }
+        ensures lane { self.new.lane.places ≡ others tid self.old.lane.places }
+        ensures late { self.new.late ≡ self.old.late }
+        ensures going { self.new.going ≡ self.old.going }
+        ensures room { self.old.lane.room ≤ self.new.lane.room }
+        ensures cost { (digits : ℕ) → length self.old.lane.places < 2 ^ digits → tally.new ≤ tally.old + digits }
+    {
+        self.lane.go(tid, 1, tally);
+    }
+}
+
 // Makes the stands up to this one, where it was not made. Those that are made are empty.
 #[inline(always)]
 fn make_in(row: &mut Vec<LaneState>, alloc: Global, number: usize) -> Result<(), AllocError>
@@ -212,6 +244,112 @@ pub(crate) fn go_in(row: &mut Vec<LaneState>, number: usize, tid: Tid, tally: &m
     if number < row.len() {
         let stand = &mut row[number];
         stand.go(tid, tally);
+    }
+}
+
+// The only leaf of the thread comes to this stand, which is made if it was not.
+#[inline(always)]
+pub(crate) fn come_lone_in(
+    row: &mut Vec<LaneState>,
+    alloc: Global,
+    number: usize,
+    tid: Tid,
+    tally: &mut Tally,
+) -> Result<(), AllocError>
+    requires { Every (is_others tid) (spec.places_in (slice_get row.old.items number)) }
+    ensures here { spec.ComesLone result tid (slice_get row.old.items number) (slice_get row.new.items number) }
+    ensures elsewhere { (i : ℕ) → i ≢ number → spec.IsAlike (slice_get row.new.items i) (slice_get row.old.items i) }
+    ensures cost { (digits : ℕ) → length (spec.places_in (slice_get row.old.items number)) < 2 ^ digits →
+        tally.new ≤ tally.old + digits }
+    ensures still { OnErr result (tally.new ≡ tally.old) }
+{
+    make_in(row, alloc, number)?;
+    come_lone_there(row, number, tid, tally)
+}
+
+// The same at a stand that was made.
+#[inline(always)]
+fn come_lone_there(
+    row: &mut Vec<LaneState>,
+    number: usize,
+    tid: Tid,
+    tally: &mut Tally,
+) -> Result<(), AllocError>
+    requires there { number < length row.old.items }
+    requires new { Every (is_others tid) (spec.places_in (slice_get row.old.items number)) }
+    ensures here { spec.ComesLone result tid (slice_get row.old.items number) (slice_get row.new.items number) }
+    ensures elsewhere { (i : ℕ) → i ≢ number → slice_get row.new.items i ≡ slice_get row.old.items i }
+    ensures cost { (digits : ℕ) → length (spec.places_in (slice_get row.old.items number)) < 2 ^ digits →
+        tally.new ≤ tally.old + digits }
+    ensures still { OnErr result (tally.new ≡ tally.old) }
+{
+    let stand = &mut row[number];
+    stand.come_lone(tid, tally)
+}
+
+// The only leaf of the thread goes from this stand.
+#[inline(always)]
+pub(crate) fn go_lone_in(row: &mut Vec<LaneState>, number: usize, tid: Tid, tally: &mut Tally)
+    requires { length (filter (is_own tid) (spec.places_in (slice_get row.old.items number))) ≡ 1 }
+    ensures here { spec.GoesLone tid (slice_get row.old.items number) (slice_get row.new.items number) }
+    ensures elsewhere { (i : ℕ) → i ≢ number → slice_get row.new.items i ≡ slice_get row.old.items i }
+    ensures cost { (digits : ℕ) → length (spec.places_in (slice_get row.old.items number)) < 2 ^ digits →
+        tally.new ≤ tally.old + digits }
+{
+    if number < row.len() {
+        let stand = &mut row[number];
+        stand.go_lone(tid, tally);
+    }
+}
+
+// The only leaf of the thread comes to the stand of this tick, which is made if it was not.
+pub(crate) fn come_lone_tick(
+    ticks: &mut Ticks,
+    alloc: Global,
+    tick: u64,
+    tid: Tid,
+    tally: &mut Tally,
+) -> Result<(), AllocError>
+    requires { Every (is_others tid) (spec.places_in (get (λ a b. a == b) ticks.old tick)) }
+    ensures here { spec.ComesLone result tid (get (λ a b. a == b) ticks.old tick) (get (λ a b. a == b) ticks.new tick) }
+    ensures elsewhere { (t : ℕ) → (tick == t) ≡ false →
+        spec.IsAlike (get (λ a b. a == b) ticks.new t) (get (λ a b. a == b) ticks.old t) }
+    ensures cost { (digits : ℕ) → length (spec.places_in (get (λ a b. a == b) ticks.old tick)) < 2 ^ digits →
+        tally.new ≤ tally.old + digits }
+    ensures still { OnErr result (tally.new ≡ tally.old) }
+{
+    make_tick(ticks, alloc, tick)?;
+    come_lone_to(ticks, tick, tid, tally)
+}
+
+// The same at the stand of a tick that was made.
+fn come_lone_to(ticks: &mut Ticks, tick: u64, tid: Tid, tally: &mut Tally) -> Result<(), AllocError>
+    requires there { is_some (get (λ a b. a == b) ticks.old tick) ≡ true }
+    requires new { Every (is_others tid) (spec.places_in (get (λ a b. a == b) ticks.old tick)) }
+    ensures here { spec.ComesLone result tid (get (λ a b. a == b) ticks.old tick) (get (λ a b. a == b) ticks.new tick) }
+    ensures elsewhere { (t : ℕ) → (tick == t) ≡ false →
+        get (λ a b. a == b) ticks.new t ≡ get (λ a b. a == b) ticks.old t }
+    ensures cost { (digits : ℕ) → length (spec.places_in (get (λ a b. a == b) ticks.old tick)) < 2 ^ digits →
+        tally.new ≤ tally.old + digits }
+    ensures still { OnErr result (tally.new ≡ tally.old) }
+{
+    match ticks.get_mut(&tick) {
+        Some(stand) => stand.come_lone(tid, tally),
+        None => unreachable!(),
+    }
+}
+
+// The only leaf of the thread goes from the stand of this tick.
+pub(crate) fn go_lone_tick(ticks: &mut Ticks, tick: u64, tid: Tid, tally: &mut Tally)
+    requires { length (filter (is_own tid) (spec.places_in (get (λ a b. a == b) ticks.old tick))) ≡ 1 }
+    ensures here { spec.GoesLone tid (get (λ a b. a == b) ticks.old tick) (get (λ a b. a == b) ticks.new tick) }
+    ensures elsewhere { (t : ℕ) → (tick == t) ≡ false →
+        get (λ a b. a == b) ticks.new t ≡ get (λ a b. a == b) ticks.old t }
+    ensures cost { (digits : ℕ) → length (spec.places_in (get (λ a b. a == b) ticks.old tick)) < 2 ^ digits →
+        tally.new ≤ tally.old + digits }
+{
+    if let Some(stand) = ticks.get_mut(&tick) {
+        stand.go_lone(tid, tally);
     }
 }
 

@@ -4,14 +4,14 @@ ghost use Rattle.std.specs.Prelude.{◌≡◌, ◌≢◌, ◌≤◌, ◌<◌, �
 ghost use Rattle.cml_value.specs.{Group.{bases}, Group.{scopes, nacks_of}};
 ghost use Rattle.cml_scan.specs.{declared.object.Light.{Light}, Scan.{offers_of}, Order.{base_at}, Table.{without, IsThere, same_light}, Order.{Every}};
 ghost use Rattle.cml_index.specs.{Cores.{IsIndexed, IsAtRest, AreThere, IsSame, IsStill, HasCome, HasFreed, HasRoom}, Live.{have_side, HasPlace}};
-ghost use Rattle.cml_index.specs.{declared.slot.Slot.TheVariants.{Waiters}, Slots.{HaveDigits}, Waits.{leaf_wait}};
+ghost use Rattle.cml_index.specs.{declared.slot.Slot.{Slot}, declared.slot.Slot.TheVariants.{Waiters}, Slots.{HaveDigits, late_at, slot_in}, Waits.{leaf_wait, IsLone}};
 ghost use Rattle.cml_index.specs.Posts as spec;
 ghost use Rattle.cml_channel.specs.declared.pairing.PairedId.{PairedId};
 
 use crate::crossing::{crossers, crossers_within};
 use crate::entries::Entries;
 use crate::entry::{Entry, Spare};
-use crate::flags::{Flags, count_lit, count_lit_within, flip};
+use crate::flags::{Flags, count_lit, count_lit_within, count_lone, flip};
 use crate::lanes::Lanes;
 use crate::live::Live;
 use crate::nacks::reserve_nacks;
@@ -60,13 +60,6 @@ impl Drop for IndexState {
 // Of how many threads that have gone the lists are kept.
 const SPARES: usize = 64;
 
-// Keeps the entry's lists for the next thread that comes, where there is room and they are short.
-fn keep(spares: &mut Vec<Spare>, entry: Entry) {
-    if spares.len() < spares.capacity() && entry.is_short() {
-        spares.push_reserved(entry.rest());
-    }
-}
-
 impl IndexState {
     // The thread goes, and its offers with it. It takes no memory.
     pub(crate) fn leave(&mut self, tid: Tid, tally: &mut Tally)
@@ -80,14 +73,18 @@ impl IndexState {
             ≤ tally.old + self.old.leaves * (digits + 2) }
         ensures freed { HasFreed self.old self.new }
     {
-        let entry = self.entries.take(tid);
+        let Some(entry) = self.entries.get(tid) else {
+            unreachable!();
+        };
         let lit = count_lit_within(self.lit, &self.flags, entry.waits(), tally);
         self.lit -= lit;
         self.leaves -= entry.waits().len();
         self.lanes.go(tid, entry.waits(), tally);
         self.live.cut_all(&self.lanes, entry.waits());
         self.crossing -= crossers_within(self.crossing, entry.waits());
-        keep(&mut self.spares, entry);
+        // read where it lies until then
+        let gone = self.entries.take(tid);
+        gone.rest_in(&mut self.spares);
     }
 
     // These threads go. It takes no memory.
@@ -154,6 +151,25 @@ impl IndexState {
         reserve_nacks(&mut self.flags, entry.nacks())
     }
 
+    // Makes room for a thread that will come with one leaf, which waits for this: its seat, and the place of its object. Nothing was told.
+    #[inline(always)]
+    pub(crate) fn make_place(&mut self, wait: Wait) -> Result<(), AllocError>
+        requires indexed { IsIndexed self.old }
+        ensures indexed { IsIndexed self.new }
+        ensures same { IsSame self.old self.new }
+        ensures lanes { self.new.lanes ≡ self.old.lanes }
+        ensures flags { self.new.flags ≡ self.old.flags }
+        ensures seat { OnOk result (0 < self.new.entries.room) }
+        ensures places { OnOk result ((n : PairedId) → have_side n (slot_in wait ∷ []) ≡ true → HasPlace self.new.live n) }
+        ensures small { OnOk result (self.new.leaves + 1 ≤ 18446744073709551615) }
+    {
+        if self.leaves.checked_add(1).is_none() {
+            return Err(AllocError);
+        }
+        self.entries.reserve()?;
+        self.live.make_lone(&wait)
+    }
+
     // Makes room for a thread that will come, and notes which leaves are to come to which lanes. Out of memory (or too many leaves to
     // count): no leaf is noted, and nothing was told.
     pub(crate) fn make_room(&mut self, alloc: Global, entry: &Entry) -> Result<(), AllocError>
@@ -211,6 +227,43 @@ impl IndexState {
         self.live.add_all(&self.lanes, entry.waits());
         self.crossing += crossers(entry.waits());
         self.entries.put(entry);
+    }
+}
+
+impl IndexState {
+    // The thread comes with its only leaf, which waits for this, and its offer with it: room is made for it in its lane. A seat and a place of
+    // its object are there. Out of memory: nothing was told, and nothing was looked at.
+    #[inline(always)]
+    pub(crate) fn enter_lone(
+        &mut self,
+        alloc: Global,
+        tid: Tid,
+        group: &Group,
+        wait: Wait,
+        tally: &mut Tally,
+    ) -> Result<(), AllocError>
+        requires indexed { IsIndexed self.old }
+        requires idle { IsAtRest self.old }
+        requires new { All (λ e. e.thread ≢ tid.0) self.old.entries.items }
+        requires lone { IsLone group.now wait }
+        requires seat { 0 < self.old.entries.room }
+        requires places { (n : PairedId) → have_side n (slot_in wait ∷ []) ≡ true → HasPlace self.old.live n }
+        requires small { self.old.leaves + 1 ≤ 18446744073709551615 }
+        ensures came { OnOk result (HasCome (record { thread = tid.0; group = group.now }) self.old self.new) }
+        ensures same { OnErr result (IsSame self.old self.new) }
+        ensures flags { self.new.flags ≡ self.old.flags }
+        ensures indexed { IsIndexed self.new }
+        ensures idle { IsAtRest self.new }
+        ensures cost { (digits : ℕ) → HaveDigits self.old.lanes digits → tally.new ≤ tally.old + (digits + 2) }
+        ensures still { OnErr result (tally.new ≡ tally.old) }
+    {
+        self.lanes.come_lone(alloc, tid, &wait, tally)?;
+        let lit = count_lone(&self.flags, &wait, tally);
+        self.leaves += 1;
+        self.lit += lit;
+        self.live.add_lone(&self.lanes, &wait);
+        self.entries.put(Entry::lone(tid, group, wait));
+        Ok(())
     }
 }
 

@@ -10,7 +10,8 @@ use Rattle.std.proofs.lemmas.List.{take_more, map-append}
 use Rattle.cml_picture.specs.declared.svg.xml.Attribute.{Attribute}
 use Rattle.cml_picture.specs.Views.{attribute_name}
 use Rattle.cml_picture.specs.Xml.{is_character, escaped_character, escaped_words, attribute, element, lone_element}
-use Rattle.cml_picture.specs.WellFormed.{stands_for_itself, IsEscaped, no_text, plain_and, entity_and, AreAttributes, no_attributes, and_attribute, is_tag, IsContent, and_text, and_lone, and_element, declaration, IsWellFormed}
+use Rattle.cml_picture.specs.WellFormed.{stands_for_itself, IsEscaped, no_text, plain_and, entity_and, AreAttributes, no_attributes, and_attribute}
+use Rattle.cml_picture.specs.WellFormed.{is_tag, IsContent, and_text, and_lone, and_element, declaration, IsWellFormed}
 
 -- a character as it is written, by what it is
 one_of : (amp lt gt quo apo own : Bool) (c : ℕ) (more : List ℕ) → stands_for_itself c ≡ (own && not amp && not lt && not gt && not quo && not apo) → IsEscaped more →

@@ -15,7 +15,8 @@ plain_character c = if is_character c then encode_utf8 c else codes "?"
 -- a character as it is written: `&` (38), `<` (60), `>` (62) and the quotes (34, 39) by their names
 abbrev pub escaped_character : ℕ → List ℕ
 escaped_character c =
-    if c == 38 then codes "&amp;" else (if c == 60 then codes "&lt;" else (if c == 62 then codes "&gt;" else (if c == 34 then codes "&quot;" else (if c == 39 then codes "&apos;" else plain_character c))))
+    if c == 38 then codes "&amp;" else (if c == 60 then codes "&lt;" else (if c == 62 then codes "&gt;" else (if c == 34 then codes "&quot;" else
+        (if c == 39 then codes "&apos;" else plain_character c))))
 
 abbrev pub escaped_characters : List ℕ → List ℕ
 escaped_characters text = flat_map escaped_character (chars text)

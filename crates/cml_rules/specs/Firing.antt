@@ -1,6 +1,6 @@
 -- What the laws say of the parties of a step, of choices and of nacks.
-use Rattle.std.specs.Prelude.{◌≡◌, ◌≢◌, ◌⊎◌, ℕ, ◌+◌, List, [], ◌∷◌, ◌++◌, Any, Some, slice_get}
-use Rattle.std.specs.List.{flat_map}
+use Rattle.std.specs.Prelude.{◌≡◌, ◌≢◌, ◌⊎◌, ◌↔◌, ℕ, ◌+◌, List, [], ◌∷◌, ◌++◌, Any, Some, slice_get}
+use Rattle.std.specs.List.{All, flat_map}
 use Rattle.cml_value.specs.Value.{PlainBase}
 use Rattle.cml_value.specs.Group.{PlainGroup, PlainGroups}
 use Rattle.cml_scan.specs.World.{live, fired, held, PlainWorld}
@@ -62,8 +62,16 @@ pub record FiresBy (w : PlainWorld) (k : ℕ) (p : Party) : Type 0 where
   pub once : times_named k p.offer.sequel.fired ≡ 1
   pub outside : times_named k (around p.offer.derivation) ≡ 0
 
--- A nack has fired after a step only if it had fired before, or fires by a party of the step; and what has fired, or is held, stays so.
+-- A nack that was live is held by this party: the party waited on its group, and what is taken of it lies in the one branch of this nack.
+pub record HeldBy (w : PlainWorld) (k : ℕ) (p : Party) : Type 0 where
+  pub waited : Waits w p.thread p.group
+  pub was_live : slice_get w.nacks k ≡ Some live
+  pub never : times_named k p.offer.sequel.fired ≡ 0
+  pub within : times_named k (around p.offer.derivation) ≡ 1
+
+-- After a step a nack has fired exactly where it had fired before, or fires by a party of the step; and it is held exactly where it was held
+-- before, or is held by a party. So each nack of a party's branches that was live is one of the two from then on, and all others are as they were.
 pub record NacksSettle (w : PlainWorld) (s : Step w) : Type 0 where
-  pub fires : (k : ℕ) → slice_get s.next.nacks k ≡ Some fired → (slice_get w.nacks k ≡ Some fired) ⊎ Any (FiresBy w k) (those_in s.derivation)
-  pub stays_fired : (k : ℕ) → slice_get w.nacks k ≡ Some fired → slice_get s.next.nacks k ≡ Some fired
-  pub stays_held : (k : ℕ) → slice_get w.nacks k ≡ Some held → slice_get s.next.nacks k ≡ Some held
+  pub fires : (k : ℕ) → (slice_get s.next.nacks k ≡ Some fired) ↔ ((slice_get w.nacks k ≡ Some fired) ⊎ Any (FiresBy w k) (those_in s.derivation))
+  pub holds : (k : ℕ) → (slice_get s.next.nacks k ≡ Some held) ↔ ((slice_get w.nacks k ≡ Some held) ⊎ Any (HeldBy w k) (those_in s.derivation))
+  pub others : (k : ℕ) → All (λ p. times_named k (branches p.group) ≡ 0) (those_in s.derivation) → slice_get s.next.nacks k ≡ slice_get w.nacks k

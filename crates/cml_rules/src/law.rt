@@ -39,8 +39,9 @@ pub fn nacks_fire_outside()
     ensures { (g : PlainGroup) → FiresOutside g }
 {}
 
-/// In a world where the nacks of pending groups are live, as in each world of a book, a nack fires only by a thread of the step that has
-/// synchronized outside the nack's branch, and once; and what has fired, or is held, stays so.
+/// In a world where the nacks of pending groups are live, as in each world of a book: a nack fires exactly where a thread of the step has
+/// synchronized outside the nack's branch, once, and is held exactly where one has synchronized inside it; what has fired, or is held, stays
+/// so; and a nack of no branch of theirs is as it was.
 pub fn nacks_fire_once()
     ensures { (w : PlainWorld) → NacksLive w → (s : Step w) → NacksSettle w s }
 {}

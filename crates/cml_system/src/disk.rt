@@ -12,7 +12,8 @@ use std::fs::OpenOptions;
 use std::io::ErrorKind;
 use std::rt::Files;
 
-/// The files of the system. What they hold is not known, since other programs write to them too.
+/// The files of the system. What they hold is not known, since other programs write to them too. The name `-` is that of standard input, where
+/// a file is read.
 #[derive(Drop)]
 pub struct Disk<'a, R: Files> {
     rt: &'a R,
@@ -25,11 +26,16 @@ impl<'a, R: Files> Disk<'a, R> {
     }
 }
 
+// Where what lies under the name is opened: `-` is standard input.
+fn opened_as(name: &str) -> &str {
+    if name == "-" { "/dev/stdin" } else { name }
+}
+
 impl<'a, R: Files> Store for Disk<'a, R> {
     ghost holds = { λ disk name. unknown };
 
     fn load(&mut self, alloc: Global, name: &str, limit: usize) -> Result<Vec<u8>, StoreFault> {
-        let mut file = match fs::open(self.rt, name) {
+        let mut file = match fs::open(self.rt, opened_as(name)) {
             Ok(file) => file,
             Err(error) => return Err(refused(error)),
         };

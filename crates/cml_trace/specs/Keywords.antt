@@ -3,7 +3,8 @@ use Rattle.std.specs.Prelude.{ℕ, List, [], ◌∷◌, codes, find, Option, Non
 use Rattle.std.specs.Str.{bytes_eq}
 use Rattle.cml_text.specs.Forms.{PlainSexpr, plain_name}
 use Rattle.cml_trace.specs.declared.keyword.Keyword.{Keyword}
-use Rattle.cml_trace.specs.declared.keyword.Keyword.TheVariants.{Spawn, Chan, SwapChan, IVar, MVar, Mailbox, Mchan, Port, Copy, IPut, MPut, Mail, Multicast, Nack, Sync, Rows, Commit, End, Clock, Never, Choose, Wrap, Scope, Always, Send, Recv, Swap, IGet, MTake, MGet, MSwap, MailRecv, PortRecv, Join, At, After, True, False, Pair, Thread}
+use Rattle.cml_trace.specs.declared.keyword.Keyword.TheVariants.{Spawn, Chan, SwapChan, IVar, MVar, Mailbox, Mchan, Port, Copy, IPut, MPut, Mail, Multicast, Nack, Sync, Rows, Commit, End, Clock, Never}
+use Rattle.cml_trace.specs.declared.keyword.Keyword.TheVariants.{Choose, Wrap, Scope, Always, Send, Recv, Swap, IGet, MTake, MGet, MSwap, MailRecv, PortRecv, Join, At, After, True, False, Pair, Thread}
 
 -- how each keyword is spelled
 abbrev pub spelling : Keyword → List ℕ

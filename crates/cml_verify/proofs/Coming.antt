@@ -15,41 +15,38 @@ use Rattle.cml_step.specs.Slices.{sliced}
 use Rattle.cml_hub.specs.declared.fault.End.TheVariants.{Quiet, Budget, Partial}
 use Rattle.cml_hub.specs.Courses.{PlainCourse, run_of}
 use Rattle.cml_hub.specs.Runs.{Run, is_allowed, after_item, turned_by, met, ticked}
-use Rattle.cml_verify.specs.Cores.{Past, more, core_of, run_at, done_by, can}
+use Rattle.cml_verify.specs.Cores.{can}
 
 some_mapped : {X Y : Type 0} (f : X → Y) (o : Option X) → is_some (option_map f o) ≡ is_some o
 some_mapped f None = refl
 some_mapped f (Some x) = refl
 
-can_where : (a : Past) (b : Bool) (o : Option Run) → is_some (option_map (core_of a) (if b then o else None)) ≡ (b && is_some o)
-can_where a true o = some_mapped (core_of a) o
-can_where a false o = refl
+can_where : (b : Bool) (o : Option Run) → is_some (if b then o else None) ≡ (b && is_some o)
+can_where true o = refl
+can_where false o = refl
 
-can_if : (a : Past) (b : Bool) (r : Run) → is_some (option_map (core_of a) (if b then Some r else None)) ≡ b
-can_if a true r = refl
-can_if a false r = refl
+can_if : (b : Bool) (r : Run) → is_some (if b then Some r else None) ≡ b
+can_if true r = refl
+can_if false r = refl
 
-module _ (c : PlainCourse) (a : Past) where
-  abbrev then_ : Item → Past
-  then_ i = more a (done_by (text_of c.program) (run_at (core_of a (run_of c))) i)
-
-  pub can_turn : (t : Tid) → (is_running c.world t.0 && is_some (slice_get c.machines t.0)) ≡ can (text_of c.program) (core_of a (run_of c)) (Turn t)
+module _ (c : PlainCourse) where
+  pub can_turn : (t : Tid) → (is_running c.world t.0 && is_some (slice_get c.machines t.0)) ≡ can (text_of c.program) (run_of c) (Turn t)
   can_turn t =
       let p = text_of c.program in
-      let r = run_at (core_of a (run_of c)) in
+      let r = run_of c in
       let f = machine_term c.program in
       let there : is_some (after_item p r (Turn t)) ≡ is_some (slice_get c.machines t.0) =
       some_mapped (λ term. turned_by p r t.0 (sliced p t.0 term)) (slice_get (map f c.machines) t.0) ∙ (ap is_some (slice_get-map f c.machines t.0) ∙ some_mapped f (slice_get c.machines t.0)) in
-      sym (can_where (then_ (Turn t)) (is_running c.world t.0) (after_item p r (Turn t)) ∙ ap (λ b. is_running c.world t.0 && b) there)
+      sym (can_where (is_running c.world t.0) (after_item p r (Turn t)) ∙ ap (λ b. is_running c.world t.0 && b) there)
 
-  pub can_commit : (row : Meet) → has_row (scan c.world) row ≡ can (text_of c.program) (core_of a (run_of c)) (Commit row)
-  can_commit row = sym (can_if (then_ (Commit row)) (has_row (scan c.world) row) (met (text_of c.program) (run_at (core_of a (run_of c))) row))
+  pub can_commit : (row : Meet) → has_row (scan c.world) row ≡ can (text_of c.program) (run_of c) (Commit row)
+  can_commit row = sym (can_if (has_row (scan c.world) row) (met (text_of c.program) (run_of c) row))
 
-  pub can_exchange : (row : Meet) → swaps c.world row ≡ can (text_of c.program) (core_of a (run_of c)) (Exchange row)
-  can_exchange row = sym (can_if (then_ (Exchange row)) (swaps c.world row) (met (text_of c.program) (run_at (core_of a (run_of c))) row))
+  pub can_exchange : (row : Meet) → swaps c.world row ≡ can (text_of c.program) (run_of c) (Exchange row)
+  can_exchange row = sym (can_if (swaps c.world row) (met (text_of c.program) (run_of c) row))
 
-  pub can_tick : (tick : ℕ) → is_allowed c.world (Clock tick) ≡ can (text_of c.program) (core_of a (run_of c)) (Clock tick)
-  can_tick tick = sym (can_if (then_ (Clock tick)) (is_allowed c.world (Clock tick)) (ticked (run_at (core_of a (run_of c))) tick))
+  pub can_tick : (tick : ℕ) → is_allowed c.world (Clock tick) ≡ can (text_of c.program) (run_of c) (Clock tick)
+  can_tick tick = sym (can_if (is_allowed c.world (Clock tick)) (ticked (run_of c) tick))
 
 -- a run is quiet exactly where nothing is left to do
 pub ends_quiet : (t b : Bool) → Quiet ≡ (if t then Quiet else if b then Budget else Partial) → true ≡ t

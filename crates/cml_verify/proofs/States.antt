@@ -47,12 +47,12 @@ mapped_behind {A = A} f xs k b h = by (slice_get xs k) refl (sym (slice_get-map 
 
 -- the state of which it is kept, and back
 abbrev state_kept : PlainKept → RunState
-state_kept k = record { world = k.world; machines = k.machines; began = k.began; faults = k.faults }
+state_kept k = record { world = k.world; machines = k.machines; began = k.began; faults = k.faults; printed = k.printed }
 
 abbrev kept_of : RunState → PlainKept
-kept_of s = record { world = s.world; machines = s.machines; began = s.began; faults = s.faults }
+kept_of s = record { world = s.world; machines = s.machines; began = s.began; faults = s.faults; printed = s.printed }
 
-module _ (p : List (PlainItem ℕ)) (keys : List PlainKept) where
+module _ (p : List (PlainItem ℕ)) (with_output : Bool) (keys : List PlainKept) where
   abbrev cores : List Core
   cores = map (core_kept p) keys
 
@@ -60,11 +60,11 @@ module _ (p : List (PlainItem ℕ)) (keys : List PlainKept) where
   states = map state_kept keys
 
   abbrev y : System Core Item
-  y = program_system (text_of p)
+  y = program_system (text_of p) with_output
 
-  stands_so : (schedule : List Item) (k : PlainKept) → run y y.start schedule ≡ Some (core_kept p k) → StandsSo p schedule (state_kept k)
+  stands_so : (schedule : List Item) (k : PlainKept) → run y y.start schedule ≡ Some (core_kept p k) → StandsSo p with_output schedule (state_kept k)
   stands_so schedule k h =
-      let b = run_behind (past (text_of p) schedule) (stands (text_of p) schedule) (core_kept p k) (sym (runs_core (text_of p) schedule) ∙ h) in
+      let b = run_behind with_output (past (text_of p) schedule) (stands (text_of p) schedule) (core_kept p k) (sym (runs_core (text_of p) with_output schedule) ∙ h) in
       record {
         run = b.0;
         leads = b.1;
@@ -72,6 +72,7 @@ module _ (p : List (PlainItem ℕ)) (keys : List PlainKept) where
         terms = ap (λ (c : Core). c.terms) b.2;
         began = ap (λ (c : Core). c.past.began) b.2;
         faults = ap (λ (c : Core). c.past.faults) b.2;
+        printed = ap (λ (c : Core). c.printed) b.2;
       }
 
   different : IsDistinct (is_same state_code) keys → (j k : ℕ) (s : RunState) → slice_get states j ≡ Some s → slice_get states k ≡ Some s → j ≡ k
@@ -86,22 +87,22 @@ module _ (p : List (PlainItem ℕ)) (keys : List PlainKept) where
       let b = mapped_behind state_kept keys i s h in
       subst (λ (x : RunState). AreThreadsIn p x.machines) b.2 (all_at (λ k. AreThreadsIn p k.machines) keys i b.0 all b.1))
 
-  reached : All (IsReached y) cores → All (λ s. (schedule : List Item) × StandsSo p schedule s) states
-  reached all = all_from (λ s. (schedule : List Item) × StandsSo p schedule s) states (λ i s h.
+  reached : All (IsReached y) cores → All (λ s. (schedule : List Item) × StandsSo p with_output schedule s) states
+  reached all = all_from (λ s. (schedule : List Item) × StandsSo p with_output schedule s) states (λ i s h.
       let b = mapped_behind state_kept keys i s h in
       let at : slice_get cores i ≡ Some (core_kept p b.0) = slice_get-map (core_kept p) keys i ∙ ap (option_map (core_kept p)) b.1 in
       let r = all_at (IsReached y) cores i (core_kept p b.0) all at in
-      (r.0, subst (StandsSo p r.0) b.2 (stands_so r.0 b.0 r.1)))
+      (r.0, subst (StandsSo p with_output r.0) b.2 (stands_so r.0 b.0 r.1)))
 
   module _ (most : Option ℕ) (all : (items : List Item) (c : Core) → IsWithin most items → IsSought y false items c → Contains cores c) where
-    each : (schedule : List Item) (r : Run) → IsWithin most schedule → stands (text_of p) schedule ≡ Some r → (s : RunState) × Contains states s × StandsSo p schedule s
+    each : (schedule : List Item) (r : Run) → IsWithin most schedule → stands (text_of p) schedule ≡ Some r → (s : RunState) × Contains states s × StandsSo p with_output schedule s
     each schedule r within h =
         let a = past (text_of p) schedule in
-        let leads : run y y.start schedule ≡ Some (core_of a r) = runs_core (text_of p) schedule ∙ ap (option_map (core_of a)) h in
-        let has = all schedule (core_of a r) within (leads, λ f. absurd (true≢false (sym f))) in
-        let b = mapped_behind (core_kept p) keys has.0 (core_of a r) (place_of cores (core_of a r) has) in
+        let leads : run y y.start schedule ≡ Some (core_of with_output a r) = runs_core (text_of p) with_output schedule ∙ ap (option_map (core_of with_output a)) h in
+        let has = all schedule (core_of with_output a r) within (leads, λ f. absurd (true≢false (sym f))) in
+        let b = mapped_behind (core_kept p) keys has.0 (core_of with_output a r) (place_of cores (core_of with_output a r) has) in
         let kept : Contains keys b.0 = (has.0, slice_get_within keys has.0 b.0 b.1, get_or_from_slice_get keys has.0 b.0 b.0 b.1) in
         (state_kept b.0, mapped_has state_kept keys b.0 kept, stands_so schedule b.0 (leads ∙ ap (λ c. Some c) (sym b.2)))
 
-    pub are_counted : IsDistinct (is_same state_code) keys → All (λ k. AreThreadsIn p k.machines) keys → All (IsReached y) cores → (n : ℕ) → n ≡ length keys → CountsStates p most n
+    pub are_counted : IsDistinct (is_same state_code) keys → All (λ k. AreThreadsIn p k.machines) keys → All (IsReached y) cores → (n : ℕ) → n ≡ length keys → CountsStates p with_output most n
     are_counted d l r n e = (states, record { different = different d; placed = placed l; reached = reached r; each = each }, length-map keys state_kept ∙ sym e)

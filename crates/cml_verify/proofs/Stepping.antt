@@ -13,7 +13,7 @@ use Rattle.cml_search.specs.Systems.{System, run, LeadsTo, IsSchedule}
 use Rattle.cml_search.proofs.Runs.{begins, run-cons}
 use Rattle.cml_verify.specs.Cores.{Past, past, more, Core, core_of, run_at, done_by, allowed, program_system}
 use Rattle.cml_verify.specs.Kept.{PlainKept, core_kept, KeepsCourse, IsAfter}
-use Rattle.cml_verify.proofs.Viewed.{runs_core}
+use Rattle.cml_verify.proofs.Viewed.{runs_core, same_allowed}
 
 and_some : {X : Type 0} (o : Option X) → option_and_then (λ x. Some x) o ≡ o
 and_some None = refl
@@ -29,59 +29,58 @@ pub leads_as : (q p : List (PlainItem ℕ)) (others schedule : List Item) (r : R
 leads_as q p others schedule r e f h = rw (← e, ← f) h
 
 -- a schedule leads somewhere
-pub leads_nowhere : (q p : List (PlainItem ℕ)) (items : List Item) → q ≡ p → stands (text_of q) items ≡ None → IsSchedule (program_system (text_of p)) items → ⊥
-leads_nowhere q p items e h s =
+pub leads_nowhere : (q p : List (PlainItem ℕ)) (with_output : Bool) (items : List Item) → q ≡ p → stands (text_of q) items ≡ None → IsSchedule (program_system (text_of p) with_output) items → ⊥
+leads_nowhere q p with_output items e h s =
     let none : stands (text_of p) items ≡ None = subst (λ x. stands (text_of x) items ≡ None) e h in
-    let f : None ≡ Some s.0 = sym (ap (option_map (core_of (past (text_of p) items))) none) ∙ sym (runs_core (text_of p) items) ∙ s.1 in
+    let f : None ≡ Some s.0 = sym (ap (option_map (core_of with_output (past (text_of p) items))) none) ∙ sym (runs_core (text_of p) with_output items) ∙ s.1 in
     cc
 
 -- an item that is not allowed leads nowhere
-none_if : (a : Past) (b : Bool) (o : Option Run) → b ≡ false → IsSome (option_map (core_of a) (if b then o else None)) → ⊥
-none_if a true o e h = true≢false e
-none_if a false o e h = true≢false (sym h)
+none_if : (with_output : Bool) (a : Past) (b : Bool) (o : Option Run) → b ≡ false → IsSome (option_map (core_of with_output a) (if b then o else None)) → ⊥
+none_if with_output a true o e h = true≢false e
+none_if with_output a false o e h = true≢false (sym h)
 
 -- what is kept of a course is its core
-kept_is : (c : PlainCourse) (k : PlainKept) (p : List (PlainItem ℕ)) (items : List Item) → KeepsCourse c k → c.program ≡ p → c.items ≡ items
-    → core_kept p k ≡ core_of (past (text_of p) items) (run_of c)
-kept_is c k p items h e f = rw (h.world, h.machines, h.began, h.faults, ← e, ← f) refl
+kept_is : (with_output : Bool) (c : PlainCourse) (k : PlainKept) (p : List (PlainItem ℕ)) (items : List Item) → KeepsCourse with_output c k → c.program ≡ p → c.items ≡ items
+    → core_kept p k ≡ core_of with_output (past (text_of p) items) (run_of c)
+kept_is with_output c k p items h e f = rw (h.world, h.machines, h.began, h.faults, h.printed, ← e, ← f) refl
 
-module _ (p : List (PlainItem ℕ)) (schedule : List Item) (h : Hub) (after : IsAfter p schedule h) where
+module _ (p : List (PlainItem ℕ)) (with_output : Bool) (schedule : List Item) (h : Hub) (after : IsAfter p schedule h) where
   -- where the hub stands
   abbrev pub here : Core
-  here = core_of (past (text_of p) schedule) (run_of h.course)
+  here = core_of with_output (past (text_of p) schedule) (run_of h.course)
 
-  pub leads_here : run (program_system (text_of p)) (core_of (past (text_of p) []) (opening (text_of p))) schedule ≡ Some here
-  leads_here = runs_core (text_of p) schedule ∙ ap (option_map (core_of (past (text_of p) schedule))) after.leads
+  pub leads_here : run (program_system (text_of p) with_output) (core_of with_output (past (text_of p) []) (opening (text_of p))) schedule ≡ Some here
+  leads_here = runs_core (text_of p) with_output schedule ∙ ap (option_map (core_of with_output (past (text_of p) schedule))) after.leads
 
-  pub keeps_here : (k : PlainKept) → KeepsCourse h.course k → run (program_system (text_of p)) (core_of (past (text_of p) []) (opening (text_of p))) schedule ≡ Some (core_kept p k)
-  keeps_here k kept = leads_here ∙ ap (λ c. Some c) (sym (kept_is h.course k p schedule kept after.program after.items))
+  pub keeps_here : (k : PlainKept) → KeepsCourse with_output h.course k
+      → run (program_system (text_of p) with_output) (core_of with_output (past (text_of p) []) (opening (text_of p))) schedule ≡ Some (core_kept p k)
+  keeps_here k kept = leads_here ∙ ap (λ c. Some c) (sym (kept_is with_output h.course k p schedule kept after.program after.items))
 
-  pub allowed_here : (items : List Item) → items ≡ allowed (text_of h.course.program) (core_of (past (text_of h.course.program) h.course.items) (run_of h.course))
-      → LeadsTo (program_system (text_of p)) schedule (λ s. items ≡ (program_system (text_of p)).allowed s)
-  allowed_here items e = (here, leads_here, e ∙ by h.course.program h.course.items after.program after.items)
-    where
-      by : (q : List (PlainItem ℕ)) (others : List Item) → q ≡ p → others ≡ schedule
-          → allowed (text_of q) (core_of (past (text_of q) others) (run_of h.course)) ≡ allowed (text_of p) here
-      by q others e f = rw (e, f) refl
+  pub allowed_here : (items : List Item) → items ≡ allowed (text_of h.course.program) (run_of h.course)
+      → LeadsTo (program_system (text_of p) with_output) schedule (λ s. items ≡ (program_system (text_of p) with_output).allowed s)
+  allowed_here items e =
+      (here, leads_here, e ∙ ap (λ q. allowed (text_of q) (run_of h.course)) after.program ∙ sym (same_allowed (text_of p) with_output (past (text_of p) schedule) (run_of h.course)))
 
   -- an item that can come is allowed
-  pub comes_here : (item : Item) → LeadsTo (program_system (text_of p)) schedule (λ s. IsSome ((program_system (text_of p)).step s item)) → is_allowed h.course.world item ≡ false → ⊥
+  pub comes_here : (item : Item) → LeadsTo (program_system (text_of p) with_output) schedule (λ s. IsSome ((program_system (text_of p) with_output).step s item))
+      → is_allowed h.course.world item ≡ false → ⊥
   comes_here item can refused =
       let is : can.0 ≡ here = same_Some can.0 here (sym can.1 ∙ leads_here) in
-      none_if (more here.past (done_by (text_of p) (run_at here) item)) (is_allowed h.course.world item) (after_item (text_of p) (run_at here) item) refused
-      (subst (λ c. IsSome ((program_system (text_of p)).step c item)) is can.2)
+      none_if with_output (more here.past (done_by (text_of p) (run_at here) item)) (is_allowed h.course.world item) (after_item (text_of p) (run_at here) item) refused
+      (subst (λ c. IsSome ((program_system (text_of p) with_output).step c item)) is can.2)
 
-  pub steps_here : (item : Item) (new : Hub) (k : PlainKept) → Adds h.course item new.course → KeepsCourse new.course k
-      → LeadsTo (program_system (text_of p)) schedule (λ s. (program_system (text_of p)).step s item ≡ Some (core_kept p k))
+  pub steps_here : (item : Item) (new : Hub) (k : PlainKept) → Adds h.course item new.course → KeepsCourse with_output new.course k
+      → LeadsTo (program_system (text_of p) with_output) schedule (λ s. (program_system (text_of p) with_output).step s item ≡ Some (core_kept p k))
   steps_here item new k adds kept =
-      let y = program_system (text_of p) in
+      let y = program_system (text_of p) with_output in
       let q = text_of p in
       let on : stands q (schedule ++ item ∷ []) ≡ Some (run_of new.course) =
       leads_on q schedule item (run_of h.course) (Some (run_of new.course)) after.leads (rw (← after.program) adds.run) in
-      let is : core_kept p k ≡ core_of (past q (schedule ++ item ∷ [])) (run_of new.course) =
-      kept_is new.course k p (schedule ++ item ∷ []) kept (adds.program ∙ after.program) (adds.items ∙ ap (λ l. l ++ item ∷ []) after.items) in (
+      let is : core_kept p k ≡ core_of with_output (past q (schedule ++ item ∷ [])) (run_of new.course) =
+      kept_is with_output new.course k p (schedule ++ item ∷ []) kept (adds.program ∙ after.program) (adds.items ∙ ap (λ l. l ++ item ∷ []) after.items) in (
         here,
         leads_here,
-        sym (run_one y y.start schedule item here leads_here) ∙ runs_core q (schedule ++ item ∷ [])
-            ∙ ap (option_map (core_of (past q (schedule ++ item ∷ [])))) on ∙ ap (λ c. Some c) (sym is),
+        sym (run_one y y.start schedule item here leads_here) ∙ runs_core q with_output (schedule ++ item ∷ [])
+            ∙ ap (option_map (core_of with_output (past q (schedule ++ item ∷ [])))) on ∙ ap (λ c. Some c) (sym is),
       )

@@ -55,12 +55,12 @@ told_more y states places n k schedules after schedule t e at leads fewest = sub
       each = λ i one h. by i one (get_push_cases schedules schedule i one h);
     }
 
-module _ (p : List (PlainItem ℕ)) (keys : List PlainKept) where
+module _ (p : List (PlainItem ℕ)) (with_output : Bool) (keys : List PlainKept) where
   abbrev states : List Core
   states = map (core_kept p) keys
 
   abbrev y : System Core Item
-  y = program_system (text_of p)
+  y = program_system (text_of p) with_output
 
   -- what is kept of a state at a place
   kept_behind : (k : ℕ) (c : Core) → slice_get states k ≡ Some c → (a : PlainKept) × (slice_get keys k ≡ Some a) × (core_kept p a ≡ c)
@@ -72,12 +72,12 @@ module _ (p : List (PlainItem ℕ)) (keys : List PlainKept) where
 
   -- the end at a core
   abbrev ending_of : Core → RunEnd
-  ending_of c = record { world = c.world; terms = c.terms; began = c.past.began; faults = c.past.faults }
+  ending_of c = record { world = c.world; terms = c.terms; began = c.past.began; faults = c.past.faults; printed = c.printed }
 
   -- a schedule that leads to a core at which nothing is left to do
-  ends_at : (schedule : List Item) (c : Core) → run y y.start schedule ≡ Some c → terminal c.world ≡ true → EndsIn (text_of p) schedule (ending_of c)
+  ends_at : (schedule : List Item) (c : Core) → run y y.start schedule ≡ Some c → terminal c.world ≡ true → EndsIn (text_of p) with_output schedule (ending_of c)
   ends_at schedule c leads stop =
-      let b = run_behind (past (text_of p) schedule) (stands (text_of p) schedule) c (sym (runs_core (text_of p) schedule) ∙ leads) in
+      let b = run_behind with_output (past (text_of p) schedule) (stands (text_of p) schedule) c (sym (runs_core (text_of p) with_output schedule) ∙ leads) in
       record {
         run = b.0;
         leads = b.1;
@@ -85,6 +85,7 @@ module _ (p : List (PlainItem ℕ)) (keys : List PlainKept) where
         terms = ap (λ (x : Core). x.terms) b.2;
         began = ap (λ (x : Core). x.past.began) b.2;
         faults = ap (λ (x : Core). x.past.faults) b.2;
+        printed = ap (λ (x : Core). x.printed) b.2;
         over = stop;
       }
 
@@ -94,23 +95,23 @@ module _ (p : List (PlainItem ℕ)) (keys : List PlainKept) where
     pub is : IsSought y false others core
     pub end : ending_of core ≡ e
 
-  seeks : (others : List Item) (e : RunEnd) → EndsIn (text_of p) others e → Seeks others e
+  seeks : (others : List Item) (e : RunEnd) → EndsIn (text_of p) with_output others e → Seeks others e
   seeks others e h = record {
-    core = core_of (past (text_of p) others) h.run;
-    is = (runs_core (text_of p) others ∙ ap (option_map (core_of (past (text_of p) others))) h.leads, λ f. absurd (true≢false (sym f)));
-    end = rw (h.world, h.terms, h.began, h.faults) refl;
+    core = core_of with_output (past (text_of p) others) h.run;
+    is = (runs_core (text_of p) with_output others ∙ ap (option_map (core_of with_output (past (text_of p) others))) h.leads, λ f. absurd (true≢false (sym f)));
+    end = rw (h.world, h.terms, h.began, h.faults, h.printed) refl;
   }
 
   module _ (places : List ℕ) (told : List (List Item)) (t : AreSchedulesTo y states places (length places) told) where
     -- a schedule that was told leads to an end
-    pub each_ends : All (IsEndAt keys) places → All (HasEnd (text_of p)) told
-    each_ends all = all_from (HasEnd (text_of p)) told (λ i schedule h. by i schedule (t.each i schedule h))
+    pub each_ends : All (IsEndAt keys) places → All (HasEnd (text_of p) with_output) told
+    each_ends all = all_from (HasEnd (text_of p) with_output) told (λ i schedule h. by i schedule (t.each i schedule h))
       where
         end_at : (i k : ℕ) → slice_get places i ≡ Some k → IsEndAt keys k
         end_at i k h = subst (IsEndAt keys) (get_or_from_slice_get places i k k h) (all i k (slice_get_within places i k h))
 
         by : (i : ℕ) (schedule : List Item) → ((k : ℕ) × (slice_get places i ≡ Some k) × (run y y.start schedule ≡ slice_get states k) × AreFewest y false states k schedule)
-            → HasEnd (text_of p) schedule
+            → HasEnd (text_of p) with_output schedule
         by i schedule s =
             let a = end_at i s.0 s.1 in
             let here : slice_get states s.0 ≡ Some (core_kept p a.one) = slice_get-map (core_kept p) keys s.0 ∙ ap (option_map (core_kept p)) a.at in
@@ -132,7 +133,7 @@ module _ (p : List (PlainItem ℕ)) (keys : List PlainKept) where
 
     -- one that ends at this core, and has no more items than the schedule
     abbrev Shorter : List Item → Core → Type 0
-    Shorter schedule c = (one : List Item) × Contains told one × EndsIn (text_of p) one (ending_of c) × (length one ≤ length schedule)
+    Shorter schedule c = (one : List Item) × Contains told one × EndsIn (text_of p) with_output one (ending_of c) × (length one ≤ length schedule)
 
     module _ (among : EachEndIsAmong keys places (length keys)) (schedule : List Item) (c : Core) (sought : IsSought y false schedule c) (over : terminal c.world ≡ true) where
       is_told : (k : ℕ) → slice_get states k ≡ Some c → IsToldAt k
@@ -153,10 +154,10 @@ module _ (p : List (PlainItem ℕ)) (keys : List PlainKept) where
       first_place (suc n) k lt at = from_told k at (λ j less there_. first_place n j (omega (arith, less, lt)) there_) (is_told k at)
 
     pub every_end : (most : Option ℕ) → ((items : List Item) (c : Core) → IsWithin most items → IsSought y false items c → Contains states c)
-        → EachEndIsAmong keys places (length keys) → EveryEndIsTold (text_of p) most told
+        → EachEndIsAmong keys places (length keys) → EveryEndIsTold (text_of p) with_output most told
     every_end most all among schedule e within h =
         let q = seeks schedule e h in
         let c = all schedule q.core within q.is in
         let stop : terminal q.core.world ≡ true = ap (λ (x : RunEnd). terminal x.world) q.end ∙ h.over in
-        subst (λ (x : RunEnd). (one : List Item) × Contains told one × EndsIn (text_of p) one x × (length one ≤ length schedule)) q.end
+        subst (λ (x : RunEnd). (one : List Item) × Contains told one × EndsIn (text_of p) with_output one x × (length one ≤ length schedule)) q.end
         (first_place among schedule q.core q.is stop (suc c.0) c.0 (omega arith) (place_of states q.core c))

@@ -1,5 +1,6 @@
--- The runs of a program, without what they have printed and used, as a system whose schedules are searched.
-use Rattle.std.specs.Prelude.{ℕ, Bool, false, List, [], ◌∷◌, ◌++◌, ◌+◌, length, map, filter, count_by, is_some, Option, Some, None, option_map}
+-- The runs of a program, without what they have used, and with what they have printed only where that counts, as a system whose schedules are
+-- searched.
+use Rattle.std.specs.Prelude.{ℕ, Bool, false, List, [], ◌∷◌, ◌++◌, ◌+◌, length, map, filter, count_by, is_some, Option, Some, None, option_map, unwrap_or}
 use Rattle.std.specs.List.{range_with_len, filter_map}
 use Rattle.cml_value.specs.Value.{PlainFunction}
 use Rattle.cml_scan.specs.World.{PlainWorld}
@@ -11,6 +12,7 @@ use Rattle.cml_hub.specs.Runs.{Run, opening, advance, next_alarm}
 use Rattle.cml_hub.specs.Performed.{PlainDone}
 use Rattle.cml_hub.specs.Deeds.{deed, after_deed, begotten, is_fault, origins, fault_count}
 use Rattle.cml_search.specs.Systems.{System}
+use Rattle.cml_verify.specs.Verdicts.{output_if}
 
 -- what is known of the turns so far: with which function each thread began, and how many ended at a fault
 pub record Past : Type 0 where
@@ -25,30 +27,31 @@ past p items = record { began = origins p items; faults = fault_count p items }
 abbrev pub more : Past → List PlainDone → Past
 more a ds = record { began = a.began ++ filter_map begotten ds; faults = a.faults + count_by is_fault ds }
 
--- the world, the term of each thread, and what is known of the turns
+-- the world, the term of each thread, what is known of the turns, and what is seen of the output
 pub record Core : Type 0 where
   pub world : PlainWorld
   pub terms : List Term
   pub past : Past
+  pub printed : Option (List ℕ)
 
-abbrev pub core_of : Past → Run → Core
-core_of a r = record { world = r.world; terms = r.terms; past = a }
+abbrev pub core_of : Bool → Past → Run → Core
+core_of with_output a r = record { world = r.world; terms = r.terms; past = a; printed = output_if with_output r.output }
 
--- the run that stands so, and has printed and used nothing
+-- the run that stands so, has printed what is seen, and has used nothing
 abbrev pub run_at : Core → Run
-run_at c = record { world = c.world; terms = c.terms; output = []; used = 0 }
+run_at c = record { world = c.world; terms = c.terms; output = unwrap_or c.printed []; used = 0 }
 
 -- what the turn did, if the item is one
 abbrev pub done_by : Program → Run → Item → List PlainDone
 done_by p r item = after_deed (deed p r item) []
 
 -- the core after an item, where it is allowed
-abbrev pub core_step : Program → Core → Item → Option Core
-core_step p c item = option_map (core_of (more c.past (done_by p (run_at c) item))) (advance p (run_at c) item)
+abbrev pub core_step : Program → Bool → Core → Item → Option Core
+core_step p with_output c item = option_map (core_of with_output (more c.past (done_by p (run_at c) item))) (advance p (run_at c) item)
 
 -- whether an item can come
-abbrev pub can : Program → Core → Item → Bool
-can p c item = is_some (core_step p c item)
+abbrev pub can : Program → Run → Item → Bool
+can p r item = is_some (advance p r item)
 
 -- a turn of each thread
 abbrev pub turns : PlainWorld → List Item
@@ -63,13 +66,20 @@ alarm_of (Some tick) = Clock tick ∷ []
 abbrev pub candidates : PlainWorld → List Item
 candidates w = ((turns w ++ map Commit (scan w)) ++ map Exchange (scan w)) ++ alarm_of (next_alarm w)
 
-abbrev pub allowed : Program → Core → List Item
-allowed p c = filter (can p c) (candidates c.world)
+-- the items that can come
+abbrev pub allowed : Program → Run → List Item
+allowed p r = filter (can p r) (candidates r.world)
 
 abbrev pub whose_turn : Item → Option ℕ
 whose_turn (Turn t) = Some t.0
 whose_turn _ = None
 
 -- the system; no turn of it is said to be quiet
-abbrev pub program_system : Program → System Core Item
-program_system p = record { start = core_of (past p []) (opening p); step = core_step p; allowed = allowed p; owner = whose_turn; quiet = λ _ _. false }
+abbrev pub program_system : Program → Bool → System Core Item
+program_system p with_output = record {
+  start = core_of with_output (past p []) (opening p);
+  step = core_step p with_output;
+  allowed = λ c. allowed p (run_at c);
+  owner = whose_turn;
+  quiet = λ _ _. false;
+}

@@ -39,6 +39,11 @@ entry_mixed digest (wraps fs v) = mix digest 9
 unfoldable pub stack_mixed : ℕ → List PlainHeld → ℕ
 stack_mixed digest hs = fold entry_mixed digest (reverse hs)
 
+-- with what is seen of an output
+abbrev pub printed_mixed : ℕ → Option (List ℕ) → ℕ
+printed_mixed digest None = digest
+printed_mixed digest (Some bytes) = fold mix (mix digest 15) bytes
+
 -- the digest of a world and of the machines in it
 unfoldable pub digest_at : PlainWorld → List PlainMachine → ℕ
 digest_at w machines =

@@ -1,10 +1,10 @@
 -- The system of a program is as is promised of a system.
-use Rattle.std.specs.Prelude.{◌≡◌, ℕ, zero, suc, ◌<◌, Bool, true, false, not, ◌&&◌, List, [], ◌∷◌, ◌++◌, length, map, filter, is_some, Option, Some, None, option_map, if◌then◌else◌, Contains}
+use Rattle.std.specs.Prelude.{◌≡◌, ℕ, zero, suc, ◌<◌, Bool, true, false, not, ◌&&◌, List, [], ◌∷◌, ◌++◌, length, map, filter, is_some, IsSome, Option, Some, None, option_map, if◌then◌else◌, Contains}
 use Rattle.std.specs.List.{range_with_len}
 use Rattle.std.specs.Option.{option_map_or}
 use Rattle.std.proofs.Common.{slice_get, refl, ap, sym, ◌∙◌, arith, true≢false}
 use Rattle.std.proofs.lemmas.Bool.{eqb-true}
-use Rattle.std.proofs.lemmas.List.Elements.{Contains-append_left, Contains-append_right, filter_passes}
+use Rattle.std.proofs.lemmas.List.Elements.{All-weaker, Contains-append_left, Contains-append_right, filter_passes}
 use Rattle.std.proofs.lemmas.List.FromFn.{get_or-range_with_len, length-range_with_len}
 use Rattle.std.proofs.lemmas.Option.{slice_get_within, same_Some}
 use Rattle.cml_scan.specs.World.{PlainWorld, PlainThread}
@@ -14,11 +14,11 @@ use Rattle.cml_book.specs.Swaps.{are_swaps}
 use Rattle.cml_schedule.specs.declared.item.Item.{Item}
 use Rattle.cml_schedule.specs.declared.item.Item.TheVariants.{Turn, Meet as Commit, Exchange, Clock}
 use Rattle.cml_step.specs.Terms.{Program}
-use Rattle.cml_hub.specs.Runs.{Run, after_item, is_allowed, next_alarm, has_number, any_runs, is_empty}
+use Rattle.cml_hub.specs.Runs.{Run, after_item, is_allowed, advance, next_alarm, has_number, any_runs, is_empty}
 use Rattle.cml_hub.proofs.RowLemmas.{row_there}
 use Rattle.cml_search.specs.Systems.{ListsAllowed, IsLawful}
 use Rattle.cml_search.proofs.Places.{mapped_has, place_of}
-use Rattle.cml_verify.specs.Cores.{Past, more, Core, core_of, run_at, done_by, can, turns, alarm_of, candidates, program_system}
+use Rattle.cml_verify.specs.Cores.{more, Core, core_of, run_at, core_step, done_by, can, turns, alarm_of, candidates, allowed, program_system}
 
 -- what passes the test stays
 module _ {X : Type 0} (test : X → Bool) where
@@ -44,9 +44,13 @@ and_first : (a b : Bool) → (a && b) ≡ true → a ≡ true
 and_first true b e = refl
 and_first false b e = e
 
-where_allowed : (a : Past) (b : Bool) (o : Option Run) (t : Core) → option_map (core_of a) (if b then o else None) ≡ Some t → b ≡ true
-where_allowed a true o t h = refl
-where_allowed a false o t h = absurd (cc)
+where_allowed : (b : Bool) (o : Option Run) → is_some (if b then o else None) ≡ true → b ≡ true
+where_allowed true o h = refl
+where_allowed false o h = h
+
+mapped : (f : Run → Core) (o : Option Run) → is_some (option_map f o) ≡ is_some o
+mapped f None = refl
+mapped f (Some r) = refl
 
 -- a thread that runs is there
 runs_there : (ts : List PlainThread) (t : ℕ) (o : Option PlainThread) → slice_get ts t ≡ o → option_map_or runs o false ≡ true → t < length ts
@@ -77,12 +81,21 @@ among w (Clock tick) h =
     and_first (has_number (next_alarm w) tick) (not (any_runs w)) (and_first (has_number (next_alarm w) tick && not (any_runs w)) (is_empty (scan w)) h) in
     Contains-append_right ((turns w ++ map Commit (scan w)) ++ map Exchange (scan w)) (alarm_of (next_alarm w)) (Clock tick) (number_is (next_alarm w) tick first)
 
-lists : (p : Program) (c : Core) → ListsAllowed (program_system p) c
-lists p c = record {
-  each = filter_passes (can p c) (candidates c.world);
-  only = λ i t h.
-      filter_has (can p c) (candidates c.world) i (among c.world i (where_allowed (more c.past (done_by p (run_at c) i)) (is_allowed c.world i) (after_item p (run_at c) i) t h)) (ap is_some h);
+lists : (p : Program) (with_output : Bool) (c : Core) → ListsAllowed (program_system p with_output) c
+lists p with_output c = record {
+  each = All-weaker (λ i. can p r i ≡ true) (λ i. IsSome (core_step p with_output c i)) (λ i h. mapped (after i) (advance p r i) ∙ h) (allowed p r)
+      (filter_passes (can p r) (candidates c.world));
+  only = λ i t h. by i (sym (mapped (after i) (advance p r i)) ∙ ap is_some h);
 }
+  where
+    r : Run
+    r = run_at c
 
-pub is_lawful : (p : Program) → IsLawful (program_system p)
-is_lawful p = record { lists = λ c r. lists p c; quiet = λ c a r q. absurd (true≢false (sym q)) }
+    after : Item → Run → Core
+    after i = core_of with_output (more c.past (done_by p r i))
+
+    by : (i : Item) → can p r i ≡ true → Contains (allowed p r) i
+    by i h = filter_has (can p r) (candidates c.world) i (among c.world i (where_allowed (is_allowed c.world i) (after_item p r i) h)) h
+
+pub is_lawful : (p : Program) (with_output : Bool) → IsLawful (program_system p with_output)
+is_lawful p with_output = record { lists = λ c r. lists p with_output c; quiet = λ c a r q. absurd (true≢false (sym q)) }

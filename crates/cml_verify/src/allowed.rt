@@ -99,7 +99,7 @@ fn can_tick(hub: &Hub, tick: u64) -> bool
 
 // Whether the item can come.
 fn can(hub: &Hub, item: &Item) -> bool
-    ensures { result ≡ core.can (text_of hub.now.course.program) (core.core_of (core.past (text_of hub.now.course.program) hub.now.course.items) (run_of hub.now.course)) item.now }
+    ensures { result ≡ core.can (text_of hub.now.course.program) (run_of hub.now.course) item.now }
 {
     match item {
         Item::Turn(thread) => can_turn(hub, *thread),
@@ -168,7 +168,7 @@ fn candidates(alloc: Global, book: &Book<OfferIndex>) -> Result<Vec<Item>, Alloc
 
 // Those of these items that can come.
 fn those(alloc: Global, hub: &Hub, items: &[Item]) -> Result<Vec<Item>, AllocError>
-    ensures { IfOk result (λ these. these.items ≡ filter (core.can (text_of hub.now.course.program) (core.core_of (core.past (text_of hub.now.course.program) hub.now.course.items) (run_of hub.now.course))) items.now) }
+    ensures { IfOk result (λ these. these.items ≡ filter (core.can (text_of hub.now.course.program) (run_of hub.now.course)) items.now) }
 {
     let mut these = Vec::new(alloc);
     for item in items {
@@ -181,7 +181,7 @@ fn those(alloc: Global, hub: &Hub, items: &[Item]) -> Result<Vec<Item>, AllocErr
 
 /// The items that are allowed where the hub stands.
 pub(crate) fn allowed_here(alloc: Global, hub: &Hub) -> Result<Vec<Item>, AllocError>
-    ensures { IfOk result (λ items. items.items ≡ core.allowed (text_of hub.now.course.program) (core.core_of (core.past (text_of hub.now.course.program) hub.now.course.items) (run_of hub.now.course))) }
+    ensures { IfOk result (λ items. items.items ≡ core.allowed (text_of hub.now.course.program) (run_of hub.now.course)) }
 {
     let all = candidates(alloc, hub.book())?;
     let items = all.as_slice();

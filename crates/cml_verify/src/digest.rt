@@ -1,9 +1,9 @@
 //! A number for a state, by which it is looked up. It need not tell states apart: what has the same number is compared.
 
-ghost use Rattle.std.specs.Prelude.{◌≡◌, fold};
+ghost use Rattle.std.specs.Prelude.{◌≡◌, fold, option_map};
 ghost use Rattle.cml_scan.specs.Views.{thread_of};
 ghost use Rattle.cml_step.specs.Shared.{left_of, plain_seen};
-ghost use Rattle.cml_verify.specs.Digests.{mix, value_mixed, variable_mixed, thread_mixed, queue_mixed, entry_mixed, stack_mixed, digest_at};
+ghost use Rattle.cml_verify.specs.Digests.{mix, value_mixed, variable_mixed, thread_mixed, queue_mixed, entry_mixed, stack_mixed, printed_mixed, digest_at};
 
 use cml_scan::{ThreadState, World};
 use cml_step::{Machine, Seen, Walk};
@@ -152,4 +152,24 @@ pub(crate) fn digest_of(world: &World, machines: &[Machine]) -> u64
     let queues = with_queues(mvars, world.mailboxes.as_slice());
     let messages = with_queues(queues, world.ports.as_slice());
     with_machines(messages, machines)
+}
+
+fn with_bytes(digest: u64, bytes: &[u8]) -> u64
+    ensures { result ≡ fold mix digest bytes.now }
+{
+    let mut all = digest;
+    for byte in bytes {
+        all = mixed(all, u64::from(*byte));
+    }
+    all
+}
+
+/// The digest with what is seen of an output.
+pub(crate) fn with_printed(digest: u64, printed: &Option<Vec<u8>>) -> u64
+    ensures { result ≡ printed_mixed digest (option_map (λ bytes. bytes.items) printed.now) }
+{
+    match printed {
+        Some(bytes) => with_bytes(mixed(digest, 15), bytes.as_slice()),
+        None => digest,
+    }
 }

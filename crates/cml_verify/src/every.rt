@@ -1,6 +1,6 @@
 //! Every schedule of a program.
 
-ghost use Rattle.std.specs.Prelude.{◌≡◌, ◌<◌, List, IfOk, IfSome, IsTrue, false, Contains, length, map};
+ghost use Rattle.std.specs.Prelude.{◌≡◌, ◌<◌, List, IfOk, IfSome, IsTrue, true, false, Contains, length, map};
 ghost use Rattle.std.specs.List.{All};
 ghost use Rattle.cml_schedule.specs.declared.item.Item.{Item};
 ghost use Rattle.cml_search.specs.{Systems.{IsReached}, Searches.{IsSearch, IsSought}};
@@ -20,7 +20,7 @@ use std::alloc::Global;
 #[derive(Drop)]
 pub struct Verdict {
     /// Schedules that end, among them a shortest one to each end: to each world in which nothing is left to do, where threads stand so, began so,
-    /// and as many ended at faults.
+    /// as many ended at faults, and, if the output counts, this was printed.
     pub ends: Vec<Vec<Item>>,
     /// How many states were found, no two of them the same.
     pub states: usize,
@@ -35,10 +35,10 @@ fn schedules_to(
     found: &Found<Kept, Item>,
     places: &[usize],
 ) -> Result<Vec<Vec<Item>>, Gap>
-    requires search { IsSearch (program_system (text_of system.now.program)) false found.now.followed (map (core_kept system.now.program) found.now.kept.keys) found.now.origins.items }
+    requires search { IsSearch (program_system (text_of system.now.program) system.now.with_output) false found.now.followed (map (core_kept system.now.program) found.now.kept.keys) found.now.origins.items }
     requires any { found.now.quietly ≡ false }
     requires within { All (λ k. k < length found.now.kept.keys) places.now }
-    ensures { IfOk result (λ schedules. AreSchedulesTo (program_system (text_of system.now.program)) (map (core_kept system.now.program) found.now.kept.keys) places.now (length places.now)
+    ensures { IfOk result (λ schedules. AreSchedulesTo (program_system (text_of system.now.program) system.now.with_output) (map (core_kept system.now.program) found.now.kept.keys) places.now (length places.now)
         (map (λ schedule. schedule.items) schedules.items)) }
 {
     let mut schedules = Vec::new(alloc);
@@ -51,11 +51,11 @@ fn schedules_to(
 
 // How far the search came, if it did not come to its end.
 fn reach_of(system: &Schedules, found: &Found<Kept, Item>) -> Option<usize>
-    requires search { IsSearch (program_system (text_of system.now.program)) false found.now.followed (map (core_kept system.now.program) found.now.kept.keys) found.now.origins.items }
+    requires search { IsSearch (program_system (text_of system.now.program) system.now.with_output) false found.now.followed (map (core_kept system.now.program) found.now.kept.keys) found.now.origins.items }
     requires any { found.now.quietly ≡ false }
     requires stopped { found.now.whole ≡ false → found.now.followed < length found.now.kept.keys }
-    requires all { IsTrue found.now.whole → (c : Core) → IsReached (program_system (text_of system.now.program)) c → Contains (map (core_kept system.now.program) found.now.kept.keys) c }
-    ensures all { (items : List Item) (c : Core) → IsWithin result items → IsSought (program_system (text_of system.now.program)) false items c
+    requires all { IsTrue found.now.whole → (c : Core) → IsReached (program_system (text_of system.now.program) system.now.with_output) c → Contains (map (core_kept system.now.program) found.now.kept.keys) c }
+    ensures all { (items : List Item) (c : Core) → IsWithin result items → IsSought (program_system (text_of system.now.program) system.now.with_output) false items c
         → Contains (map (core_kept system.now.program) found.now.kept.keys) c }
     ensures stopped { IfSome result (λ most. found.now.whole ≡ false) }
 {
@@ -84,16 +84,16 @@ fn count_of(found: &Found<Kept, Item>) -> usize
     found.kept().len()
 }
 
-/// Examines every schedule of the program, up to so many states.
-///
-/// # Errors
-/// Out of memory; or a thread does not stand in the program, which does not come about.
-pub fn verify(alloc: Global, program: &Prog, bound: usize) -> Result<Verdict, Gap>
+// Examines every schedule of the program, up to so many states. The output counts, or not.
+fn examine(alloc: Global, program: &Prog, with_output: bool, bound: usize) -> Result<Verdict, Gap>
     requires { 0 < bound }
-    ensures { IfOk result (λ v. IsVerdict program.now bound v.reach (map (λ schedule. schedule.items) v.ends.items) v.states) }
+    ensures { IfOk result (λ v. IsVerdict program.now with_output bound v.reach (map (λ schedule. schedule.items) v.ends.items) v.states) }
 {
     let again = program.copy()?;
-    let system = Schedules { program: again };
+    let system = Schedules {
+        program: again,
+        with_output,
+    };
     let found = all_states(alloc, &system, bound)?;
     let kept = found.kept();
     if !all_placed(program, kept) {
@@ -109,4 +109,27 @@ pub fn verify(alloc: Global, program: &Prog, bound: usize) -> Result<Verdict, Ga
         states,
         reach,
     })
+}
+
+/// Examines every schedule of the program, up to so many states. What was printed does not count.
+///
+/// # Errors
+/// Out of memory; or a thread does not stand in the program, which does not come about.
+pub fn verify(alloc: Global, program: &Prog, bound: usize) -> Result<Verdict, Gap>
+    requires { 0 < bound }
+    ensures { IfOk result (λ v. IsVerdict program.now false bound v.reach (map (λ schedule. schedule.items) v.ends.items) v.states) }
+{
+    examine(alloc, program, false, bound)
+}
+
+/// Examines every schedule of the program, up to so many states. Two states are different also where other things were printed before them; so
+/// there is a schedule to each list of lines with which a schedule ends.
+///
+/// # Errors
+/// Out of memory; or a thread does not stand in the program, which does not come about.
+pub fn outcomes(alloc: Global, program: &Prog, bound: usize) -> Result<Verdict, Gap>
+    requires { 0 < bound }
+    ensures { IfOk result (λ v. IsVerdict program.now true bound v.reach (map (λ schedule. schedule.items) v.ends.items) v.states) }
+{
+    examine(alloc, program, true, bound)
 }

@@ -1,15 +1,15 @@
-//! What is kept of a state: the world, the machine of each thread, and what is known of its turns.
+//! What is kept of a state: the world, the machine of each thread, what is known of its turns, and what is seen of its output.
 
-ghost use Rattle.std.specs.Prelude.{◌≡◌, ◌<◌, ◌↔◌, IfOk, IsTrue, Some, length, slice_get};
+ghost use Rattle.std.specs.Prelude.{◌≡◌, ◌<◌, ◌↔◌, IfOk, IsTrue, Some, length, option_map, slice_get};
 ghost use Rattle.std.specs.Hash as fed;
 ghost use Rattle.cml_hub.specs.{Runs.{terminal}, Deeds.{origins}};
 ghost use Rattle.cml_step.specs.Calls.{text_of};
-ghost use Rattle.cml_verify.specs.{Sameness.{is_same, is_same_equivalence, is_same_partly, is_same_says}, Digests.{digest_at}, Kept.{PlainKept, state_code, KeepsCourse}};
+ghost use Rattle.cml_verify.specs.{Sameness.{is_same, is_same_equivalence, is_same_partly, is_same_says}, Digests.{digest_at, printed_mixed}, Kept.{PlainKept, state_code, KeepsCourse}, Verdicts.{output_if}};
 ghost use Rattle.std.proofs.Common.{ap};
 
-use crate::digest::digest_of;
+use crate::digest::{digest_of, with_printed};
 use crate::read::read_world;
-use crate::same::{same_all, same_world};
+use crate::same::{Same, same_all, same_world};
 use cml_hub::{End, Hub};
 use cml_scan::World;
 use cml_step::Machine;
@@ -18,8 +18,9 @@ use std::alloc::{AllocError, Global};
 use std::hash::{Hash, Hasher};
 use std::marker::Model;
 
-/// What is kept of a state: the world, the machine of each thread by its number, with which function each thread began, and how many ended at a
-/// fault. The digest of the world and the machines, by which it is looked up, stands beside them.
+/// What is kept of a state: the world, the machine of each thread by its number, with which function each thread began, how many ended at a
+/// fault, and what was printed, if the output counts. The digest of the world, the machines and the output, by which it is looked up, stands beside
+/// them.
 #[derive(Drop)]
 pub struct Kept {
     digest: u64,
@@ -29,20 +30,27 @@ pub struct Kept {
     machines: Vec<Machine>,
     began: Vec<FnRef>,
     faults: usize,
+    printed: Option<Vec<u8>>,
 }
 
 impl Model for Kept {
-    ghost use Rattle.std.specs.Prelude.{◌≡◌};
+    ghost use Rattle.std.specs.Prelude.{◌≡◌, option_map};
     ghost use Rattle.cml_hub.specs.Runs.{terminal};
-    ghost use Rattle.cml_verify.specs.{Digests.{digest_at}, Kept.{PlainKept, state_code}};
+    ghost use Rattle.cml_verify.specs.{Digests.{digest_at, printed_mixed}, Kept.{PlainKept, state_code}};
 
     ghost Value = { PlainKept };
 
     ghost coded = { state_code };
 
-    ghost view = { λ k. record { world = k.world; machines = k.machines.items; began = k.began.items; faults = k.faults } };
+    ghost view = { λ k. record {
+      world = k.world;
+      machines = k.machines.items;
+      began = k.began.items;
+      faults = k.faults;
+      printed = option_map (λ bytes. bytes.items) k.printed;
+    } };
 
-    ghost invariant = { λ k. (k.ends ≡ terminal k.world) × (k.digest ≡ digest_at k.world k.machines.items) };
+    ghost invariant = { λ k. (k.ends ≡ terminal k.world) × (k.digest ≡ printed_mixed (digest_at k.world k.machines.items) (option_map (λ bytes. bytes.items) k.printed)) };
 }
 
 impl PartialEq for Kept {
@@ -60,9 +68,9 @@ impl Eq for Kept {
 }
 
 impl Hash for Kept {
-    ghost hash_input = { λ k. fed.u64 (digest_at k.world k.machines) };
+    ghost hash_input = { λ k. fed.u64 (printed_mixed (digest_at k.world k.machines) k.printed) };
 
-    ghost respects_eq = { λ a b e. ap (λ k. fed.u64 (digest_at k.world k.machines)) (is_same_says state_code a b e) };
+    ghost respects_eq = { λ a b e. ap (λ k. fed.u64 (printed_mixed (digest_at k.world k.machines) k.printed)) (is_same_says state_code a b e) };
 
     fn hash<H: Hasher>(&self, state: &mut H) {
         state.write_u64(self.digest);
@@ -92,6 +100,9 @@ impl Kept {
             return false;
         }
         if self.faults != other.faults {
+            return false;
+        }
+        if !self.printed.same(&other.printed) {
             return false;
         }
         if !same_world(&self.world, &other.world) {
@@ -171,14 +182,26 @@ fn all_origins(alloc: Global, hub: &Hub) -> Result<Vec<FnRef>, AllocError>
     Ok(began)
 }
 
+// What is seen of what a hub has printed.
+fn printed_by(alloc: Global, hub: &Hub, with_output: bool) -> Result<Option<Vec<u8>>, AllocError>
+    ensures { IfOk result (λ printed. option_map (λ bytes. bytes.items) printed ≡ output_if with_output hub.now.course.output) }
+{
+    if !with_output {
+        return Ok(None);
+    }
+    let bytes = Vec::from_slice(alloc, hub.out().as_bytes())?;
+    Ok(Some(bytes))
+}
+
 /// What is kept of where a hub stands.
-pub(crate) fn keep(alloc: Global, hub: &Hub) -> Result<Kept, AllocError>
-    ensures { IfOk result (λ kept. KeepsCourse hub.now.course kept) }
+pub(crate) fn keep(alloc: Global, hub: &Hub, with_output: bool) -> Result<Kept, AllocError>
+    ensures { IfOk result (λ kept. KeepsCourse with_output hub.now.course kept) }
 {
     let world = read_world(alloc, hub.book())?;
     let machines = machines(alloc, hub)?;
     let began = all_origins(alloc, hub)?;
-    let digest = digest_of(&world, machines.as_slice());
+    let printed = printed_by(alloc, hub, with_output)?;
+    let digest = with_printed(digest_of(&world, machines.as_slice()), &printed);
     let ends = is_quiet(hub);
     let faults = hub.faults();
     let kept = Kept {
@@ -188,6 +211,7 @@ pub(crate) fn keep(alloc: Global, hub: &Hub) -> Result<Kept, AllocError>
         machines,
         began,
         faults,
+        printed,
     };
     Ok(kept)
 }

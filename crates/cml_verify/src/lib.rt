@@ -1,4 +1,4 @@
-//! Every schedule of a program: which ends there are, and a shortest schedule to each.
+//! Every schedule of a program: which ends and outputs there are, and a shortest schedule to each.
 #![tactic(auto)]
 
 mod allowed;
@@ -12,4 +12,4 @@ mod same;
 mod schedules;
 
 pub use cml_search::Gap;
-pub use every::{Verdict, verify};
+pub use every::{Verdict, outcomes, verify};

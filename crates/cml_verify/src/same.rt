@@ -1,6 +1,6 @@
 //! Equality of worlds and of machines.
 
-ghost use Rattle.std.specs.Prelude.{◌≡◌, ◌↔◌, IsTrue, ℕ, List, Option, map};
+ghost use Rattle.std.specs.Prelude.{◌≡◌, ◌↔◌, IsTrue, ℕ, List, Option, map, option_map};
 ghost use Rattle.cml_value.specs.Value.{PlainValue, PlainFunction};
 ghost use Rattle.cml_scan.specs.World.{PlainThread, PlainNack};
 ghost use Rattle.cml_scan.specs.Views.{thread_of, nack_of};
@@ -98,6 +98,20 @@ impl Same for Vec<PortId> {
 
     fn same(&self, other: &Vec<PortId>) -> bool {
         same_all(self.as_slice(), other.as_slice())
+    }
+}
+
+impl Same for Option<Vec<u8>> {
+    ghost Plain = { Option (List ℕ) };
+
+    ghost plain = { λ o. option_map (λ bytes. bytes.items) o };
+
+    fn same(&self, other: &Option<Vec<u8>>) -> bool {
+        match (self, other) {
+            (None, None) => true,
+            (Some(bytes), Some(others)) => bytes.as_slice() == others.as_slice(),
+            _ => false,
+        }
     }
 }
 

@@ -1,6 +1,6 @@
 //! The schedules of a program, as a system that can be searched.
 
-ghost use Rattle.std.specs.Prelude.{◌≡◌, IfOk};
+ghost use Rattle.std.specs.Prelude.{◌≡◌, Bool, IfOk};
 ghost use Rattle.cml_hub.specs.Kept.{NoneOut};
 ghost use Rattle.cml_search.specs.Systems.{IsSchedule};
 ghost use Rattle.cml_step.specs.Calls.{text_of};
@@ -17,11 +17,13 @@ use std::alloc::{AllocError, Global};
 #[derive(Drop)]
 pub struct Schedules {
     pub(crate) program: Prog,
+    // Whether the output counts: states with other outputs are other states.
+    pub(crate) with_output: bool,
 }
 
 // The hub that has gone through a schedule that leads somewhere.
 fn hub_after(alloc: Global, program: &Prog, schedule: &[Item]) -> Result<Hub, AllocError>
-    requires { IsSchedule (program_system (text_of program.now)) schedule.now }
+    requires { (with_output : Bool) × IsSchedule (program_system (text_of program.now) with_output) schedule.now }
     ensures { IfOk result (λ hub. IsAfter program.now schedule.now hub) }
 {
     let again = program.copy()?;
@@ -43,13 +45,13 @@ impl System for Schedules {
 
     ghost State = { Core };
 
-    ghost rules = { λ s. program_system (text_of s.program) };
+    ghost rules = { λ s. program_system (text_of s.program) s.with_output };
 
     ghost state_of = { λ s k. core_kept s.program k };
 
     fn start(&self, alloc: Global) -> Result<Kept, Gap> {
         let hub = hub_after(alloc, &self.program, &[])?;
-        let kept = keep(alloc, &hub)?;
+        let kept = keep(alloc, &hub, self.with_output)?;
         Ok(kept)
     }
 
@@ -69,11 +71,11 @@ impl System for Schedules {
         if !came {
             unreachable!();
         }
-        let kept = keep(alloc, &hub)?;
+        let kept = keep(alloc, &hub, self.with_output)?;
         Ok(kept)
     }
 
     ghost same = { kept_same };
 
-    ghost lawful = { λ s. is_lawful (text_of s.program) };
+    ghost lawful = { λ s. is_lawful (text_of s.program) s.with_output };
 }

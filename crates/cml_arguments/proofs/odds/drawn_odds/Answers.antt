@@ -5,4 +5,4 @@ use Rattle.cml_arguments.proofs.odds.drawn_odds.Goals as goal
 pub returns-in-None : goal.returns-in-None
 returns-in-None c =
     let none = rw c.in-None.is at c.in_ok-told.ensures in
-    IfOk-weaker c.over_record.result _ _ (λ told others. told_other _ _ _ none others) c.over_record.ensures
+    IfOk-weaker c.over_odds.result _ _ (λ told others. told_other _ _ _ none others) c.over_odds.ensures

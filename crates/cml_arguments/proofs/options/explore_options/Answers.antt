@@ -17,7 +17,10 @@ pub number-requires-5 : goal.number-requires-5
 number-requires-5 c = number_served _ _ (codes "priority") _ _ c.requires refl refl
 
 pub flag-requires : goal.flag-requires
-flag-requires c = flag_served _ _ (codes "turns") c.requires refl
+flag-requires c = flag_served _ _ (codes "picks") c.requires refl
+
+pub flag-requires-2 : goal.flag-requires-2
+flag-requires-2 c = flag_served _ _ (codes "turns") c.requires refl
 
 pub returns : goal.returns
 returns c = record {
@@ -25,11 +28,12 @@ returns c = record {
   runs = cc;
   seed = cc;
   steps = cc;
-  workers = cc;
-  turns = c.flag.ensures;
+  workers = c.number-4.ensures;
+  picks = c.flag.ensures;
+  turns = c.flag-2.ensures;
   priority = c.number-5.ensures;
   save = c.get_str.ensures ∙ first_value-rows (found_of c.args.matches.now) (codes "save");
   servers = c.in_ok-servers.ensures;
-  until = c.get_str-2.ensures ∙ first_value-rows (found_of c.args.matches.now) (codes "until");
+  until = c.in_ok-until.ensures;
   counts = search (rules, default_in_range, number_in_range);
 }

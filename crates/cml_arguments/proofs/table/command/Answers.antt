@@ -5,7 +5,7 @@ use Rattle.cml_arguments.proofs.table.command.Goals as goal
 
 -- the program without its commands, and with the first of them
 abbrev none : App
-none = record { top = record (new_app (codes "cml")).top { subcommand_required = true }; subs = [] }
+none = record { top = record (new_app (codes "cml")).top { subcommand_required = true; has_version = true }; subs = [] }
 
 abbrev one : App
 one = with_subcommand none trace_command

@@ -6,4 +6,5 @@ use Rattle.cml_arguments.proofs.table.explaining.Goals as goal
 pub returns : goal.returns
 returns c = λ shape made.
     let one = c.with_arg.ensures (flag_rule (codes "explain")) shape (search (rules, helped)) made in
-    shaped _ _ _ _ (two_added (flag_rule (codes "explain")) (flag_rule (codes "plain")) shape) (c.with_arg-2.ensures (flag_rule (codes "plain")) (with_rule (flag_rule (codes "explain")) shape) (search (rules, helped)) one)
+    shaped _ _ _ _ (two_added (flag_rule (codes "explain")) (flag_rule (codes "plain")) shape) (c.with_arg-2.ensures (flag_rule (codes "plain")) (with_rule (flag_rule (codes "explain")) shape) (search
+    (rules, helped)) one)

@@ -1,7 +1,7 @@
 use Rattle.std.proofs.Common.{rules, codes, [], ◌∷◌}
 use Rattle.clap.specs.Words.{Shape}
 use Rattle.std.specs.Prelude.{IfOk}
-use Rattle.cml_arguments.specs.Words.{any_rule, command_of, count_rule, file_rule, runs_rule, with_order, with_rule, workers_rule, IsShapedAs}
+use Rattle.cml_arguments.specs.Words.{any_rule, command_of, count_rule, file_rule, flag_rule, runs_rule, with_order, with_rule, workers_rule, IsShapedAs}
 use Rattle.cml_arguments.proofs.Added.{helped}
 use Rattle.cml_arguments.proofs.table.explore.Goals as goal
 
@@ -21,10 +21,14 @@ third = with_rule (count_rule (codes "steps")) second
 abbrev fourth : Shape
 fourth = with_rule (workers_rule (codes "workers")) third
 
+abbrev fifth : Shape
+fifth = with_rule (flag_rule (codes "picks")) fourth
+
 pub returns : goal.returns
 returns c =
     let one : IfOk c.with_arg-command.result (IsShapedAs first) = c.with_arg-command.ensures (runs_rule (codes "runs")) begun (search (rules, helped)) c.on_file.ensures in
     let two : IfOk c.with_arg-command-2.result (IsShapedAs second) = c.with_arg-command-2.ensures (any_rule (codes "seed")) first (search (rules, helped)) one in
     let three : IfOk c.with_arg-command-3.result (IsShapedAs third) = c.with_arg-command-3.ensures (count_rule (codes "steps")) second (search (rules, helped)) two in
     let four : IfOk c.with_arg-command-4.result (IsShapedAs fourth) = c.with_arg-command-4.ensures (workers_rule (codes "workers")) third (search (rules, helped)) three in
-    c.finding.ensures (with_order fourth) (c.ordering.ensures fourth four)
+    let five : IfOk c.with_arg-command-5.result (IsShapedAs fifth) = c.with_arg-command-5.ensures (flag_rule (codes "picks")) fourth (search (rules, helped)) four in
+    c.finding.ensures (with_order fifth) (c.ordering.ensures fifth five)

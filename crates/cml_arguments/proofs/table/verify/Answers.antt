@@ -1,6 +1,6 @@
 use Rattle.std.proofs.Common.{rules, codes, [], ◌∷◌}
 use Rattle.clap.specs.Words.{Shape}
-use Rattle.cml_arguments.specs.Words.{command_of, file_rule, list_rule, option_rule, states_rule, with_rule}
+use Rattle.cml_arguments.specs.Words.{command_of, file_rule, flag_rule, list_rule, option_rule, states_rule, with_rule}
 use Rattle.cml_arguments.proofs.Added.{helped}
 use Rattle.cml_arguments.proofs.table.verify.Goals as goal
 
@@ -12,10 +12,14 @@ abbrev first : Shape
 first = with_rule (states_rule (codes "states")) begun
 
 abbrev second : Shape
-second = with_rule (option_rule (codes "save")) first
+second = with_rule (flag_rule (codes "outcomes")) first
+
+abbrev third : Shape
+third = with_rule (option_rule (codes "save")) second
 
 pub returns : goal.returns
 returns c =
     let one = c.with_arg-command.ensures (states_rule (codes "states")) begun (search (rules, helped)) c.on_file.ensures in
-    let two = c.with_arg.ensures (option_rule (codes "save")) first (search (rules, helped)) one in
-    c.with_arg-2.ensures (list_rule (codes "servers")) second c.servers.ensures two
+    let two = c.with_arg-command-2.ensures (flag_rule (codes "outcomes")) first (search (rules, helped)) one in
+    let three = c.with_arg.ensures (option_rule (codes "save")) second (search (rules, helped)) two in
+    c.with_arg-2.ensures (list_rule (codes "servers")) third c.servers.ensures three

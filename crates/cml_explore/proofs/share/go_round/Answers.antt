@@ -12,14 +12,18 @@ join_all-requires-clause-begins g c =
 
 pub returns-then-stopped : goal.returns-then-stopped
 returns-then-stopped g c =
-    let last : HasJoined c.args.program.now c.args.asked.now c.args.so_far.now c.next_round-round.result (length c.in_ok-places.places.items) (length c.in_ok-places.places.items) true c.join_all.new.made =
-    subst (λ (b : Bool). HasJoined c.args.program.now c.args.asked.now c.args.so_far.now c.next_round-round.result (length c.in_ok-places.places.items) (length c.in_ok-places.places.items) b c.join_all.new.made) c.if-stopped.true c.in_ok-stopped.ensures in
+    let last : HasJoined c.args.program.now c.args.asked.now c.args.so_far.now c.next_round-round.result (length c.in_ok-places.places.items)
+    (length c.in_ok-places.places.items) true c.join_all.new.made =
+    subst (λ (b : Bool). HasJoined c.args.program.now c.args.asked.now c.args.so_far.now c.next_round-round.result (length c.in_ok-places.places.items)
+    (length c.in_ok-places.places.items) b c.join_all.new.made) c.if-stopped.true c.in_ok-stopped.ensures in
     record { more = last.1; made = last.0 }
 
 pub returns : goal.returns
 returns g c =
-    let amid : HasJoined c.args.program.now c.args.asked.now c.args.so_far.now c.next_round-round.result (length c.in_ok-places.places.items) (length c.in_ok-places.places.items) false c.join_all.new.made =
-    subst (λ (b : Bool). HasJoined c.args.program.now c.args.asked.now c.args.so_far.now c.next_round-round.result (length c.in_ok-places.places.items) (length c.in_ok-places.places.items) b c.join_all.new.made) c.if-stopped.false c.in_ok-stopped.ensures in
+    let amid : HasJoined c.args.program.now c.args.asked.now c.args.so_far.now c.next_round-round.result (length c.in_ok-places.places.items)
+    (length c.in_ok-places.places.items) false c.join_all.new.made =
+    subst (λ (b : Bool). HasJoined c.args.program.now c.args.asked.now c.args.so_far.now c.next_round-round.result (length c.in_ok-places.places.items)
+    (length c.in_ok-places.places.items) b c.join_all.new.made) c.if-stopped.false c.in_ok-stopped.ensures in
     let many = c.in_ok-places.ensures.many in
     let ends = round_ends c.args.program.now c.args.asked.now c.args.so_far.now c.next_round-round.result (length c.in_ok-places.places.items) c.join_all.new.made amid
     (omega (arith, many)) c.requires.left in

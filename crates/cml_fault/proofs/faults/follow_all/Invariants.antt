@@ -10,5 +10,6 @@ use Rattle.cml_fault.proofs.faults.follow_all.Given as goal
 abbrev pub invariant-loop-i : goal.invariant-loop-i
 invariant-loop-i l = record {
   gone : RunsAgain l.sources.hub.now l.second l.i;
-  known : AreThreadFaults (plain_sources l.sources) l.sources.hub.now.course.program (first_failures (text_of l.sources.hub.now.course.program) (take l.i l.sources.hub.now.course.items)) l.first.items;
+  known : AreThreadFaults (plain_sources l.sources) l.sources.hub.now.course.program (first_failures (text_of l.sources.hub.now.course.program)
+      (take l.i l.sources.hub.now.course.items)) l.first.items;
 }

@@ -6,7 +6,10 @@ use Rattle.cml_host.proofs.BehindLemmas.{reply_or, replied, text_or}
 use Rattle.cml_host.proofs.command.do_task.Goals as goal
 
 pub run_file-requires-clause-counts : goal.run_file-requires-clause-counts
-run_file-requires-clause-counts g c κs within = rw c.in-Run.is at c.requires.counts
+run_file-requires-clause-counts g c κs within = let counts = rw c.in-Run.is at c.requires.counts in (counts.0, counts.1, counts.2)
+
+pub run_file-requires-clause-depth : goal.run_file-requires-clause-depth
+run_file-requires-clause-depth g c κs within = let counts = rw c.in-Run.is at c.requires.counts in counts.3
 
 pub replay_file-requires-clause-watch : goal.replay_file-requires-clause-watch
 replay_file-requires-clause-watch g c = rw c.in-Replay.is at c.requires.counts

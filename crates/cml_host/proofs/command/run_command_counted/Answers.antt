@@ -1,4 +1,4 @@
-use Rattle.std.proofs.Common.{rules, ◌≡◌, ℕ, List, ap, map, inl, refl, subst}
+use Rattle.std.proofs.Common.{rules, ◌≡◌, ℕ, List, ap, map, inl, subst}
 use Rattle.std.specs.String.{string_bytes}
 use Rattle.cml_arguments.specs.declared.Answer.TheVariants as answer
 use Rattle.cml_arguments.specs.Words.{IsAnswer}
@@ -50,7 +50,8 @@ returns-in-Ok-Fault-clause-ran g c =
     inl (
       answer.Fault c.in-Ok-Fault.text,
       subst (IsAnswer words) c.in-Ok-Fault.field-0-is c.in-Ok-Fault.ensures,
-      from_first g.O.Write.contents g.E.Write.contents (λ output errors. IsReplied (λ reply. reply ≡ refusal (string_bytes c.in-Ok-Fault.text) 1) given output errors shelf c.carry_out-in-Ok-Fault.result)
+      from_first g.O.Write.contents g.E.Write.contents (λ output errors. IsReplied
+          (λ reply. reply ≡ refusal (string_bytes c.in-Ok-Fault.text) 1) given output errors shelf c.carry_out-in-Ok-Fault.result)
           c.args.out.now c.carry_out-in-Ok-Fault.new.out c.args.err.now c.carry_out-in-Ok-Fault.new.err c.requires.writes c.requires.complaints
           ((refusal text 1, ap (λ (ts : List ℕ). refusal ts 1) same, c.carry_out-in-Ok-Fault.ensures.carried), (search rules, c.requires.reads.0, c.requires.reads.1)),
     )

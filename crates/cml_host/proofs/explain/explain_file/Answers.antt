@@ -1,5 +1,4 @@
-use Rattle.std.proofs.Common.{rules}
-use Rattle.cml_host.specs.Replies.{moment, passage, plain_reply}
+use Rattle.cml_host.specs.Replies.{moment}
 use Rattle.cml_host.proofs.BehindLemmas.{carried_behind}
 use Rattle.cml_host.proofs.explain.explain_file.Goals as goal
 

@@ -29,7 +29,8 @@ returns-then-not-came-clause-ok g c =
     let item = get_or items count (Turn (record { 0 = 0 })) in
     let within : count < length items = omega arith in
     let so : c.in_ok-came.came ≡ false = search rules in
-    told_until c.args.hub.now items count item c.loop-count.hub c.tell_item.new.hub c.in_ok-came.came (passage g.O.Write.contents c.args.out.now c.loop-count.out) within (item_at items count (Turn (record { 0 = 0 })) within) so c.loop-count.invariant.goes
+    told_until c.args.hub.now items count item c.loop-count.hub c.tell_item.new.hub c.in_ok-came.came (passage g.O.Write.contents c.args.out.now c.loop-count.out) within
+    (item_at items count (Turn (record { 0 = 0 })) within) so c.loop-count.invariant.goes
     c.in_ok-came.ensures.follows c.loop-count.invariant.fine
 
 pub returns-in_err-spill_full-clause-err : goal.returns-in_err-spill_full-clause-err
@@ -61,4 +62,5 @@ loop-count-preserved g c =
 
 pub returns-clause-ok : goal.returns-clause-ok
 returns-clause-ok g c =
-    told_all c.args.hub.now c.args.items.now c.loop-count.count c.loop-count.hub (passage g.O.Write.contents c.args.out.now c.loop-count.out) (omega arith) c.loop-count.invariant.goes c.loop-count.invariant.fine
+    told_all c.args.hub.now c.args.items.now c.loop-count.count c.loop-count.hub (passage g.O.Write.contents c.args.out.now c.loop-count.out)
+    (omega arith) c.loop-count.invariant.goes c.loop-count.invariant.fine

@@ -1,4 +1,4 @@
-use Rattle.std.proofs.Common.{rules, ◌≡◌, ◌∙◌, ◌<◌, ap, arith, length, map, take_all}
+use Rattle.std.proofs.Common.{rules, ◌∙◌, ◌<◌, ap, arith, length, take_all}
 use Rattle.cml_explore.specs.ClassViews.{plain_class}
 use Rattle.cml_host.specs.Exploring.{files_from}
 use Rattle.cml_host.proofs.ExploringLemmas.{file_next}

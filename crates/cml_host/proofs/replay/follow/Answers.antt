@@ -1,4 +1,4 @@
-use Rattle.std.proofs.Common.{rules, refl}
+use Rattle.std.proofs.Common.{rules}
 use Rattle.cml_host.proofs.ItemLemmas.{bad_within}
 use Rattle.cml_host.proofs.replay.follow.Goals as goal
 

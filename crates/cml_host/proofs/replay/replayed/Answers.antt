@@ -1,4 +1,4 @@
-use Rattle.std.proofs.Common.{◌≡◌, Bool, inl, inr, is_some, subst, ◌∙◌}
+use Rattle.std.proofs.Common.{Bool, inl, inr, is_some, subst, ◌∙◌}
 use Rattle.std.proofs.lemmas.Result.{IfOk-weaker}
 use Rattle.cml_host.specs.Closed.{plain_asked}
 use Rattle.cml_host.specs.Refused.{RefusesAs}

@@ -1,31 +1,23 @@
-use Rattle.std.proofs.Common.{inl, inr}
-use Rattle.cml_host.specs.Replies.{RefusalOf, Replies, passage}
+use Rattle.std.proofs.Common.{ℕ, List, inl, inr}
+use Rattle.cml_host.specs.Replies.{passage}
 use Rattle.cml_host.specs.Running.{ScriptOutcome}
-use Rattle.cml_host.specs.Scripts.{IsNoScript, plain_script}
-use Rattle.cml_host.proofs.ClosedLemmas.{store_behind}
-use Rattle.cml_host.proofs.ReplyLemmas.{refused}
+use Rattle.cml_host.specs.Scripts.{plain_script}
+use Rattle.cml_host.specs.Stores.{Content}
+use Rattle.cml_host.proofs.BehindLemmas.{refused_behind, store_from}
 use Rattle.cml_host.proofs.run.run_file.Goals as goal
 
 pub returns-in-Ok-clause-ran : goal.returns-in-Ok-clause-ran
 returns-in-Ok-clause-ran g c =
     let output = passage g.O.Write.contents c.args.out.now c.run_script.new.out in
     let errors = passage g.E.Write.contents c.args.err.now c.run_script.new.err in
+    let new = g.S.Store.holds c.run_script.new.store in
     let s = plain_script c.in-Ok.script in
     inl (
       s,
       c.in-Ok.ensures.ok,
-      store_behind (λ store. ScriptOutcome c.args.explains s c.args.options.now output errors store c.run_script.result) (g.S.Store.holds c.args.store.now)
-          (g.S.Store.holds c.open_script.new.store) (g.S.Store.holds c.run_script.new.store) c.open_script.ensures.same c.run_script.ensures.ran,
+      store_from (λ (held : List ℕ → Content). ScriptOutcome c.args.explains s c.args.options.now output errors (record { before = held; after = new }) c.run_script.result)
+          (g.S.Store.holds c.args.store.now) (g.S.Store.holds c.open_script.new.store) c.open_script.ensures.same c.run_script.ensures.ran,
     )
 
 pub returns-in-Err-clause-ran : goal.returns-in-Err-clause-ran
-returns-in-Err-clause-ran g c =
-    let output = passage g.O.Write.contents c.args.out.now c.carry_out.new.out in
-    let errors = passage g.E.Write.contents c.args.err.now c.carry_out.new.err in
-    let file = c.args.options.now.file.now in
-    let wrong = IsNoScript c.args.explains file (g.S.Store.holds c.args.store.now file) in
-    inr (
-    store_behind (λ store. Replies (RefusalOf wrong) output errors store c.carry_out.result) (g.S.Store.holds c.args.store.now)
-    (g.S.Store.holds c.open_script.new.store) (g.S.Store.holds c.carry_out.new.store) c.open_script.ensures.same
-    (refused wrong c.in-Err.why output errors _ c.carry_out.result c.in-Err.ensures.err c.carry_out.ensures.carried)
-    )
+returns-in-Err-clause-ran g c = inr (refused_behind _ c.in-Err.why _ _ _ _ _ _ c.in-Err.ensures.err c.open_script.ensures.same c.carry_out.ensures.carried)

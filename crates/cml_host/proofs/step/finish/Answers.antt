@@ -18,4 +18,5 @@ returns-in_err-_ends-clause-err g c = λ given came.
 pub returns-clause-ok : goal.returns-clause-ok
 returns-clause-ok g c = λ given came spent.
     let some : 0 < length c.args.typed.now = search rules in
-    last_answered (places_known c.args.stepper.now) c.args.hub.now c.args.typed.now c.args.typed.now c.in_ok-_ends._ends c.reply.new.hub given _ some came spent c.in_ok-_ends.ensures.ok.0 c.in_ok-_ends.ensures.ok.1
+    last_answered (places_known c.args.stepper.now) c.args.hub.now c.args.typed.now c.args.typed.now c.in_ok-_ends._ends c.reply.new.hub given _ some came spent
+    c.in_ok-_ends.ensures.ok.0 c.in_ok-_ends.ensures.ok.1

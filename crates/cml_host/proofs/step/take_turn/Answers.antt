@@ -1,4 +1,4 @@
-use Rattle.std.proofs.Common.{rules, List, ℕ, IfOk, OnErr, [], ◌∷◌, subst}
+use Rattle.std.proofs.Common.{rules, List, ℕ, IfOk, OnErr, [], subst}
 use Rattle.cml_stream.specs.Streams.{stream, IsSpent, Supplies}
 use Rattle.cml_stepper.specs.Steppers.{places_known}
 use Rattle.cml_host.specs.Stepped.{IsTurnTaken, TalkIsCut}

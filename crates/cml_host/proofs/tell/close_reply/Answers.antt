@@ -1,10 +1,10 @@
-use Rattle.std.proofs.Common.{rules, ◌≡◌, ◌++◌, Bool, ℕ, List, map, option_map, refl, subst}
+use Rattle.std.proofs.Common.{rules, ◌≡◌, Bool, map, option_map, refl, subst}
 use Rattle.cml_check.specs.Sizes.{size_of}
 use Rattle.cml_hub.specs.Courses.{run_of}
 use Rattle.cml_schedule.specs.Written.{schedule_text}
 use Rattle.cml_host.specs.Closed.{plain_asked, schedule_file}
 use Rattle.cml_host.specs.Replies.{plain_file}
-use Rattle.cml_host.specs.Told.{end_line, whole_output}
+use Rattle.cml_host.specs.Told.{end_line}
 use Rattle.cml_host.specs.declared.reply.Reply.{Reply}
 use Rattle.cml_host.proofs.ClosedLemmas.{closed_as}
 use Rattle.cml_host.proofs.TellLemmas.{whole_is}

@@ -1,15 +1,11 @@
-use Rattle.std.proofs.Common.{List, map, refl, subst}
-use Rattle.cml_explore.specs.Ends.{IsGathered}
-use Rattle.cml_host.specs.Verified.{ends_of}
+use Rattle.std.proofs.Common.{refl}
 use Rattle.cml_host.proofs.verify.examine.Goals as goal
 
 pub returns-clause-found : goal.returns-clause-found
-returns-clause-found c =
-    let p = c.args.script.now.program in
-    record {
-      verdict = c.in_ok-verdict.verdict;
-      found = c.in_ok-verdict.ensures;
-      reach_is = refl;
-      gathered = rw c.as_slice.ensures.value at c.in_ok-made.ensures;
-      told_are = c.in_ok-told.ensures.told;
-    }
+returns-clause-found c = record {
+  verdict = c.in_ok-verdict.verdict;
+  found = c.in_ok-verdict.ensures.found;
+  reach_is = refl;
+  gathered = rw c.as_slice.ensures.value at c.in_ok-made.ensures;
+  told_are = c.in_ok-told.ensures.told;
+}

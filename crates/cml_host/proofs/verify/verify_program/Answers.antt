@@ -1,7 +1,7 @@
-use Rattle.std.proofs.lemmas.Result.{IfOk-weaker}
+use Rattle.cml_host.proofs.VerifyLemmas.{asked_other}
 use Rattle.cml_host.proofs.verify.verify_program.Goals as goal
 
-pub returns : goal.returns
-returns c =
+pub returns-clause-told : goal.returns-clause-told
+returns-clause-told c =
     let found = c.in_ok-found.found in
-    IfOk-weaker c.tell_found.result _ _ (λ reply told. (found.reach, found.made, found.told, c.in_ok-found.ensures.found, told)) c.tell_found.ensures
+    asked_other c.args.options.now.outcomes _ _ c.if-options.false (found.reach, found.made, found.told, c.in_ok-found.ensures.found, c.in_ok-tell_found.ensures)

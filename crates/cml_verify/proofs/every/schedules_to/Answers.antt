@@ -12,7 +12,8 @@ schedule_to-requires-clause-search c = rw (c.requires.any) c.requires.search
 pub loop-place-init : goal.loop-place-init
 loop-place-init c =
     let p = c.args.system.now.program in
-    told_none (program_system (text_of p)) (map (core_kept p) c.args.found.now.kept.keys) c.args.places.now (map (λ schedule. schedule.items) c.new-schedules.result.items)
+    told_none (program_system (text_of p) c.args.system.now.with_output) (map (core_kept p) c.args.found.now.kept.keys) c.args.places.now
+    (map (λ schedule. schedule.items) c.new-schedules.result.items)
     (ap (map (λ schedule. schedule.items)) c.new-schedules.ensures.items)
 
 pub loop-place-preserved : goal.loop-place-preserved
@@ -21,7 +22,7 @@ loop-place-preserved c =
     let keys = c.args.found.now.kept.keys in
     let places = c.args.places.now in
     let i = c.loop-place.place-index in
-    told_more (program_system (text_of p)) (map (core_kept p) keys) places i (get_or places i 0) (map (λ schedule. schedule.items) c.loop-place.schedules.items)
+    told_more (program_system (text_of p) c.args.system.now.with_output) (map (core_kept p) keys) places i (get_or places i 0) (map (λ schedule. schedule.items) c.loop-place.schedules.items)
     (map (λ schedule. schedule.items) c.push.new.self.items) c.in_ok-schedule.schedule.items c.loop-place.invariant
     (ap (map (λ schedule. schedule.items)) c.in_ok-push.ensures.items ∙ map-append (λ schedule. schedule.items) c.loop-place.schedules.items (c.in_ok-schedule.schedule ∷ []))
     (slice_get-get_or places i 0 (omega arith))

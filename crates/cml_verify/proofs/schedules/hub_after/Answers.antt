@@ -20,4 +20,4 @@ returns-in-Ok c =
 pub unreachable-requires : goal.unreachable-requires
 unreachable-requires c =
     let none : stands (text_of c.in_ok-again.again) c.args.schedule.now ≡ None = search rules in
-    leads_nowhere c.in_ok-again.again c.args.program.now c.args.schedule.now c.in_ok-again.ensures none c.requires
+    leads_nowhere c.in_ok-again.again c.args.program.now c.requires.0 c.args.schedule.now c.in_ok-again.ensures none c.requires.1

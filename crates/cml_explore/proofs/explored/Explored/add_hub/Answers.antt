@@ -1,5 +1,5 @@
-use Rattle.std.proofs.Common.{refl, sym, ap, ◌∙◌}
-use Rattle.cml_explore.specs.Finishes.{PlainEnded, finish_of, fate_of, is_good}
+use Rattle.std.proofs.Common.{refl, ap, ◌∙◌}
+use Rattle.cml_explore.specs.Finishes.{PlainEnded, finish_of, fate_of, is_good, stops_by}
 use Rattle.cml_explore.proofs.ExploreLemmas.{added_hub, finish_is}
 use Rattle.cml_explore.proofs.explored.Explored.add_hub.Goals as goal
 
@@ -13,5 +13,5 @@ returns-clause-added c =
       added_hub c.args.self.now c.self.inside.classes c.count.new.self c.self.inside.runs _ c.self.inside.well c.is_well.result c.both-self-inside.result c.args.seed
           (record { details = details; digest = c.digest_of.result; items = c.schedule.result.now }) e c.self.view_is
           (finish_is h details _ _ c.digest_of.ensures c.schedule.ensures.items) c.in_ok-count.ensures.ok refl (c.is_well.ensures ∙ ap is_good c.fate_of-fate.ensures) c.both-self-inside.ensures,
-      c.stops.ensures e (sym c.fate_of-fate.ensures),
+      c.stops.ensures ∙ ap (stops_by c.args.asked.now.until.now) c.fate_of-fate.ensures,
     )

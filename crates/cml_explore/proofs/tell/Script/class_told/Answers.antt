@@ -9,5 +9,6 @@ returns-clause-told c = record {
   outputs_are = c.outputs.ensures;
   first_is = c.first-first.ensures;
   items_are = c.items.ensures;
-  run_is = c.in_ok-run.ensures;
+  order_is = c.of.ensures;
+  run_is = c.in_ok-well.ensures;
 }

@@ -7,5 +7,5 @@ use Rattle.cml_explore.proofs.tell.Script.classes_told.Given as goal
 abbrev pub invariant-loop-index : goal.invariant-loop-index
 invariant-loop-index l = record {
   numbers : map (λ c. c.number) l.told.items ≡ take l.index l.numbers;
-  each : All (IsClassTold (map (λ own. own.items) l.self.places.now) l.self.program.now l.self.budget l.self.order l.classes) l.told.items;
+  each : All (IsClassTold (map (λ own. own.items) l.self.places.now) l.self.program.now l.self.asked l.classes) l.told.items;
 }

@@ -20,15 +20,23 @@ use Rattle.cml_index.proofs.Crossed.{left_those}
 use Rattle.cml_index.specs.Posts as spec
 use Rattle.cml_index.specs.Waits.{lit_wait}
 use Rattle.cml_index.proofs.Waits.{waits_lit}
-use Rattle.cml_index.proofs.Parted.{gone_one, left_lane, left_rest, left_count, left_all, nacks_left, move_cost, filter_fewer}
+use Rattle.cml_index.proofs.Parted.{gone_one, left_lane, left_rest, left_count, left_all, nacks_left, move_cost, filter_fewer, there_any}
+use Rattle.cml_index.specs.Seats.{IsEntryOf}
+use Rattle.cml_index.proofs.OwnSeat.{none_any}
 use Rattle.cml_index.proofs.state.IndexState.leave.Goals as goal
+
+pub unreachable-requires : goal.unreachable-requires
+unreachable-requires c =
+    let es = c.args.self.now.entries.items in
+    let none = c.get.ensures in
+    none_any c.args.tid.0 es (subst (IsEntryOf c.args.tid es) c.in_default.is none) (there_any c.args.tid.0 es c.requires.there)
 
 pub count_lit_within-lit-requires : goal.count_lit_within-lit-requires
 count_lit_within-lit-requires c =
     let told = spec.told c.args.self.now.flags.entries in
     let es = c.args.self.now.entries.items in
-    let d = c.take-entry.result in
-    let own : filter (λ e. nat_eq c.args.tid.0 e.thread) es ≡ d ∷ [] = c.take-entry.ensures.own in
+    let d = c.in-Some.entry.now in
+    let own : filter (λ e. nat_eq c.args.tid.0 e.thread) es ≡ d ∷ [] = c.in-Some.ensures.1 in
     let many = left_count (lit_by told) c.args.tid.0 es d own in
     let count : length (filter (lit_wait told) c.waits.result.now) ≡ length (filter (lit_by told) (bases d.group)) = ap (λ ws. length (filter (lit_wait told) ws)) c.waits.ensures.same
     ∙ waits_lit told (bases d.group) in
@@ -37,8 +45,8 @@ count_lit_within-lit-requires c =
 pub overflow_sub-self : goal.overflow_sub-self
 overflow_sub-self c =
     let es = c.args.self.now.entries.items in
-    let d = c.take-entry.result in
-    let own : filter (λ e. nat_eq c.args.tid.0 e.thread) es ≡ d ∷ [] = c.take-entry.ensures.own in
+    let d = c.in-Some.entry.now in
+    let own : filter (λ e. nat_eq c.args.tid.0 e.thread) es ≡ d ∷ [] = c.in-Some.ensures.1 in
     let many = left_count (lit_by (spec.told c.args.self.now.flags.entries)) c.args.tid.0 es d own in
     let count : c.count_lit_within-lit.result ≡ length
     (filter (lit_by (spec.told c.args.self.now.flags.entries)) (bases d.group)) = c.count_lit_within-lit.ensures.count
@@ -49,8 +57,8 @@ overflow_sub-self c =
 pub overflow_sub-self-2 : goal.overflow_sub-self-2
 overflow_sub-self-2 c =
     let es = c.args.self.now.entries.items in
-    let d = c.take-entry.result in
-    let own : filter (λ e. nat_eq c.args.tid.0 e.thread) es ≡ d ∷ [] = c.take-entry.ensures.own in
+    let d = c.in-Some.entry.now in
+    let own : filter (λ e. nat_eq c.args.tid.0 e.thread) es ≡ d ∷ [] = c.in-Some.ensures.1 in
     let many = left_all c.args.tid.0 es d own in
     let count : length c.waits-2.result.now ≡ length (bases d.group) = c.waits-2.ensures.many in
     omega (arith, many, count, c.requires.indexed.all)
@@ -58,18 +66,18 @@ overflow_sub-self-2 c =
 pub go-requires-clause-all : goal.go-requires-clause-all
 go-requires-clause-all c k =
     let es = c.args.self.now.entries.items in
-    let d = c.take-entry.result in
-    let own : filter (λ e. nat_eq c.args.tid.0 e.thread) es ≡ d ∷ [] = c.take-entry.ensures.own in
-    let thread : d.thread ≡ c.args.tid.0 = c.take-entry.ensures.thread in
+    let d = c.in-Some.entry.now in
+    let own : filter (λ e. nat_eq c.args.tid.0 e.thread) es ≡ d ∷ [] = c.in-Some.ensures.1 in
+    let thread : d.thread ≡ c.args.tid.0 = c.in-Some.ensures.0 in
     ap (λ ss. length (slot_leaves k 0 ss)) c.waits-3.ensures.slots ∙ left_lane spec.slot_of k c.args.tid es d own thread
     ∙ ap (λ ps. length (filter (is_own c.args.tid) ps)) (sym (c.requires.indexed.placed k))
 
 pub cut_all-requires-clause-was : goal.cut_all-requires-clause-was
 cut_all-requires-clause-was c n e =
     let es = c.args.self.now.entries.items in
-    let d = c.take-entry.result in
-    let own : filter (λ e. nat_eq c.args.tid.0 e.thread) es ≡ d ∷ [] = c.take-entry.ensures.own in
-    let thread : d.thread ≡ c.args.tid.0 = c.take-entry.ensures.thread in
+    let d = c.in-Some.entry.now in
+    let own : filter (λ e. nat_eq c.args.tid.0 e.thread) es ≡ d ∷ [] = c.in-Some.ensures.1 in
+    let thread : d.thread ≡ c.args.tid.0 = c.in-Some.ensures.0 in
     let lanes = c.args.self.now.lanes in
     let after = c.go.new.self in
     let ss = map slot_in c.waits-4.result.now in
@@ -100,9 +108,9 @@ cut_all-requires-clause-over c n on =
 pub cut_all-requires-clause-counted : goal.cut_all-requires-clause-counted
 cut_all-requires-clause-counted c n e on two =
     let es = c.args.self.now.entries.items in
-    let d = c.take-entry.result in
-    let own : filter (λ e. nat_eq c.args.tid.0 e.thread) es ≡ d ∷ [] = c.take-entry.ensures.own in
-    let thread : d.thread ≡ c.args.tid.0 = c.take-entry.ensures.thread in
+    let d = c.in-Some.entry.now in
+    let own : filter (λ e. nat_eq c.args.tid.0 e.thread) es ≡ d ∷ [] = c.in-Some.ensures.1 in
+    let thread : d.thread ≡ c.args.tid.0 = c.in-Some.ensures.0 in
     let lanes = c.args.self.now.lanes in
     let ss = map slot_in c.waits-4.result.now in
     let k = Side true n in
@@ -117,8 +125,8 @@ cut_all-requires-clause-counted c n e on two =
 pub crossers_within-requires : goal.crossers_within-requires
 crossers_within-requires c =
     let es = c.args.self.now.entries.items in
-    let d = c.take-entry.result in
-    let own : filter (λ e. nat_eq c.args.tid.0 e.thread) es ≡ d ∷ [] = c.take-entry.ensures.own in
+    let d = c.in-Some.entry.now in
+    let own : filter (λ e. nat_eq c.args.tid.0 e.thread) es ≡ d ∷ [] = c.in-Some.ensures.1 in
     let many = left_those spec.is_crosser c.args.tid.0 es d own in
     let crossing : one_if (crosses (map slot_in c.waits-5.result.now)) 1 ≡ one_if (spec.is_crosser d) 1 = ap (λ ss. one_if (crosses ss) 1) c.waits-5.ensures.slots in
     omega (arith, many, crossing, c.requires.indexed.cross)
@@ -126,36 +134,36 @@ crossers_within-requires c =
 pub overflow_sub-self-3 : goal.overflow_sub-self-3
 overflow_sub-self-3 c =
     let es = c.args.self.now.entries.items in
-    let d = c.take-entry.result in
-    let own : filter (λ e. nat_eq c.args.tid.0 e.thread) es ≡ d ∷ [] = c.take-entry.ensures.own in
+    let d = c.in-Some.entry.now in
+    let own : filter (λ e. nat_eq c.args.tid.0 e.thread) es ≡ d ∷ [] = c.in-Some.ensures.1 in
     let many = left_those spec.is_crosser c.args.tid.0 es d own in
     let crossing : c.crossers_within.result ≡ one_if (spec.is_crosser d) 1 = c.crossers_within.ensures ∙ ap (λ ss. one_if (crosses ss) 1) c.waits-5.ensures.slots in
     omega (arith, many, crossing, c.requires.indexed.cross)
 
 pub returns-clause-entries : goal.returns-clause-entries
-returns-clause-entries c = c.take-entry.ensures.items
+returns-clause-entries c = c.take-gone.ensures.items
 
 pub returns-clause-indexed : goal.returns-clause-indexed
 returns-clause-indexed c =
     let es = c.args.self.now.entries.items in
-    let d = c.take-entry.result in
-    let own : filter (λ e. nat_eq c.args.tid.0 e.thread) es ≡ d ∷ [] = c.take-entry.ensures.own in
-    let rest : c.take-entry.new.self.items ≡ filter (λ e. not (nat_eq c.args.tid.0 e.thread)) es = c.take-entry.ensures.items ∙ sym (gone_one c.args.tid es) in
-    let without_ : c.take-entry.new.self.items ≡ without (c.args.tid ∷ []) es = c.take-entry.ensures.items in
+    let d = c.in-Some.entry.now in
+    let own : filter (λ e. nat_eq c.args.tid.0 e.thread) es ≡ d ∷ [] = c.in-Some.ensures.1 in
+    let rest : c.take-gone.new.self.items ≡ filter (λ e. not (nat_eq c.args.tid.0 e.thread)) es = c.take-gone.ensures.items ∙ sym (gone_one c.args.tid es) in
+    let without_ : c.take-gone.new.self.items ≡ without (c.args.tid ∷ []) es = c.take-gone.ensures.items in
     let lit = lit_by (spec.told c.args.self.now.flags.entries) in
     let many = left_all c.args.tid.0 es d own in
     let count : length c.waits-2.result.now ≡ length (bases d.group) = c.waits-2.ensures.many in
-    let after : length (offers_of c.take-entry.new.self.items) ≡ length (offers_of (filter (λ e. not (nat_eq c.args.tid.0 e.thread)) es)) = ap (λ xs. length (offers_of xs)) rest in
+    let after : length (offers_of c.take-gone.new.self.items) ≡ length (offers_of (filter (λ e. not (nat_eq c.args.tid.0 e.thread)) es)) = ap (λ xs. length (offers_of xs)) rest in
     let many_cross = left_those spec.is_crosser c.args.tid.0 es d own in
     let crossing : c.crossers_within.result ≡ one_if (spec.is_crosser d) 1 = c.crossers_within.ensures ∙ ap (λ ss. one_if (crosses ss) 1) c.waits-5.ensures.slots in
-    let after_cross : length (filter spec.is_crosser c.take-entry.new.self.items)
+    let after_cross : length (filter spec.is_crosser c.take-gone.new.self.items)
     ≡ length (filter spec.is_crosser (filter (λ e. not (nat_eq c.args.tid.0 e.thread)) es)) = ap
     (λ xs. length (filter spec.is_crosser xs)) rest in
     let many_lit = left_count lit c.args.tid.0 es d own in
     let count_lit : c.count_lit_within-lit.result ≡ length (filter lit (bases d.group)) = c.count_lit_within-lit.ensures.count
     ∙ ap (λ ws. length (filter (lit_wait (spec.told c.args.self.now.flags.entries)) ws)) c.waits.ensures.same
     ∙ waits_lit (spec.told c.args.self.now.flags.entries) (bases d.group) in
-    let after_lit : length (spec.lit_offers c.args.self.now.flags.entries c.take-entry.new.self.items)
+    let after_lit : length (spec.lit_offers c.args.self.now.flags.entries c.take-gone.new.self.items)
     ≡ length (filter (λ o. lit o.base) (offers_of (filter (λ e. not (nat_eq c.args.tid.0 e.thread)) es))) = ap
     (λ xs. length (filter (λ o. lit o.base) (offers_of xs))) rest in
     record {
@@ -191,8 +199,8 @@ returns-clause-freed c = record {
 pub returns-clause-cost : goal.returns-clause-cost
 returns-clause-cost c digits few =
     let es = c.args.self.now.entries.items in
-    let d = c.take-entry.result in
-    let own : filter (λ e. nat_eq c.args.tid.0 e.thread) es ≡ d ∷ [] = c.take-entry.ensures.own in
+    let d = c.in-Some.entry.now in
+    let own : filter (λ e. nat_eq c.args.tid.0 e.thread) es ≡ d ∷ [] = c.in-Some.ensures.1 in
     let many = left_all c.args.tid.0 es d own in
     let count : length c.waits-2.result.now ≡ length (bases d.group) = c.waits-2.ensures.many in
     let count1 : length c.waits.result.now ≡ length (bases d.group) = c.waits.ensures.many in

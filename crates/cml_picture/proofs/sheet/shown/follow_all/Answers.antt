@@ -13,7 +13,8 @@ returns-in_err-follow_item-clause-halts c =
 
 pub loop-item-preserved : goal.loop-item-preserved
 loop-item-preserved c = record {
-  leads = leads_more c.args.hub.now.course c.args.items.now c.loop-item.item-index _ c.loop-item.hub.course c.follow_item.new.hub.course c.loop-item-test.true c.loop-item.invariant.leads c.in_ok-follow_item.ensures.leads;
+  leads = leads_more c.args.hub.now.course c.args.items.now c.loop-item.item-index _
+      c.loop-item.hub.course c.follow_item.new.hub.course c.loop-item-test.true c.loop-item.invariant.leads c.in_ok-follow_item.ensures.leads;
   knows = c.in_ok-follow_item.ensures.knows;
   places = c.in_ok-follow_item.ensures.places ∙ c.loop-item.invariant.places;
   none_out = c.in_ok-follow_item.ensures.none_out;

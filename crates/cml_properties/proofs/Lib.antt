@@ -1,0 +1,10 @@
+pub mod Firsts
+pub mod HoldLemmas
+pub mod FitLemmas
+pub mod LineLemmas
+pub mod BreakLemmas
+pub mod ReadLemmas
+pub mod SortLemmas
+pub mod OneThing
+pub mod OwnLemmas
+pub mod BreachLemmas

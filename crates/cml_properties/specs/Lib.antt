@@ -1,0 +1,10 @@
+pub mod Kinds
+pub mod Lines
+pub mod Codes
+pub mod Patterns
+pub mod Properties
+pub mod Watches
+pub mod Agreements
+pub mod Breaches
+pub mod Reading
+pub mod Laws
