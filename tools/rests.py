@@ -2,8 +2,9 @@
 
 Of the function that the edit changes: its whole text, and its answers and invariants. (Of functions that call one another in a ring: those of
 each of them.) Of the rest of its crate: specs, lemmas, types, traits and constants, and the contracts of the functions that it can name.
-Of a crate below: what a crate above can read of it. The body of another function is in none of these, and no line that is a comment, since of
-comments the prover makes nothing.
+Of a crate below: what a crate above can read of it, as far as a text names it that counts itself: a file of specs or lemmas, a function, a
+type. What is named nowhere cannot be called, and no goal can cite it. The body of another function is in none of these, and no line that is a
+comment, since of comments the prover makes nothing; how imports are laid out does not count.
 
     python3 tools/rests.py      changes parts of a small crate, and says whether those count, and no others, that should
 """
@@ -19,6 +20,12 @@ HEAD = re.compile(r"( *)(pub(?:\([^)]*\))? )?(?:const )?(?:unsafe )?fn (\w+)")
 OWNER = re.compile(r"(?:pub(?:\([^)]*\))? )?(?:unsafe )?(impl|trait)\b(.*)")
 USE = re.compile(r"(?:ghost )?use ")  # of a module, and of no other
 IMPORT = re.compile(r"^((?:ghost )?use )([^;]*);$", re.M)
+STATED = re.compile(rb"use ([^{}]+)\.\{([^{}]*)\}")  # an import of a file of specs or lemmas
+PASSED_ON = re.compile(r"^pub use ([^;]*);$", re.M)  # what a crate passes on under its own name
+FRAME = re.compile(r"(?:pub(?:\([^)]*\))? )?mod \w+;|(?:unsafe )?impl\b.*\{|\}")  # of a file, around its functions and types
+LISTED = re.compile(r"^pub mod (\w+)$", re.M)
+STANDS_IN = re.compile(r"\b(?:specs|proofs)(?:\.\w+)+")  # the file of specs or lemmas that an import names, and what in it
+DECLARED = re.compile(r"\b(?:struct|enum|union|trait|type|const|static) (\w+)")
 CYCLE = re.compile(r"#\[cycle\((\w+)")
 WORD = re.compile(r"\w+")
 FOR_ITSELF = ("#[tactic", "#[inline")  # attributes that say nothing to another function
@@ -29,7 +36,14 @@ def told(file):
     text in quotes is none."""
     text = file.read_bytes()
     lines = told_lines(text, COMMENTS.get(file.suffix))
-    return text if lines is None else b"\n".join(line for _, line, _ in lines)
+    return text if lines is None else b"\n".join(laid_out([line for _, line, _ in lines]))
+
+
+def laid_out(lines):
+    """These lines with one for each name that they import from specs or lemmas, in order, before all others."""
+    uses = [(line, STATED.fullmatch(line)) for line in lines]
+    names = {b"use %s.{%s}" % (found[1], name.strip()) for _, found in uses if found for name in found[2].split(b",")}
+    return [*sorted(names), *[line for line, found in uses if not found]]
 
 
 def told_lines(text, mark):
@@ -101,6 +115,18 @@ class Source:
         words = {*WORD.findall(text)}
         return "\n".join([text, *sorted({use for use, word in self.imports if word in words or not word.isidentifier() and word in text})])
 
+    def parts(self, path):
+        """What a crate above can read of it, in parts: its functions' contracts, what it passes on, and its types with all else."""
+        found = []
+        for it in self.functions:
+            if it.is_of_trait or it.is_public:
+                found.append((it.owned_by() if it.is_of_trait else {it.name}, [path, self.with_imports(it.head)]))
+        for tree in PASSED_ON.findall(self.rest):
+            found += [({word} if word.isidentifier() else set(), [path, f"pub use {it}"]) for it in paths_of(tree) for word in [word_for(it)]]
+        lines = [it for it in PASSED_ON.sub("", self.rest).split("\n") if it and not FRAME.fullmatch(it)]
+        rest = [({*DECLARED.findall("\n".join(lines))}, [path, self.with_imports("\n".join(lines))])] if lines else []
+        return [*found, *rest]
+
     def function_at(self, number):
         """The function that has the line of this number."""
         return next((it for it in self.functions if number in it.numbers), None)
@@ -121,6 +147,49 @@ class Function:
         opened = [*lines[at:body], re.sub(r"\{\}$", "{", lines[body])]
         self.head = "\n".join([owner, *[it for it in attributes if not it.lstrip().startswith(FOR_ITSELF)], *opened])
 
+    def owned_by(self):
+        """The names of the type, or of the trait, to which a trait's function belongs; none where it may belong to each type."""
+        found = re.match(r"(?:pub(?:\([^)]*\))? )?(?:unsafe )?(?:impl\b.*? for|trait) &?(?:mut )?(?:\w+::)*(\w\w+)", self.owner)
+        return {found[1]} if found else set()
+
+
+class Part:
+    """A part of what a crate shows: its texts, the names by which another text cites it, and the words that stand in it."""
+
+    def __init__(self, names, texts):
+        self.names, self.texts = names, [as_text(it) for it in texts]
+        self.words = words_of(" ".join(self.texts[1:]))
+
+
+def words_of(text):
+    """The words of a text, and the files of specs and lemmas that its imports name, as `specs.Numbers`."""
+    rooms = [it.split(".") for it in STANDS_IN.findall(text)]
+    return {*WORD.findall(text), *(".".join(it[:n]) for it in rooms for n in range(2, len(it) + 1))}
+
+
+def cited(own, lows):
+    """What the verdicts on a crate's edits rest on of the crates below it, which are given with their names: of each the parts that the crate
+    cites, or another part that is cited."""
+    words, counted = own.words(), []
+    left = [((name, at), part) for name, low in lows.items() for at, part in enumerate(low.shown())]
+    while left:
+        taken = [(place, part) for place, part in left if not part.names or not words.isdisjoint(part.names)]
+        if not taken:
+            break
+        counted += taken
+        words.update(*[part.words for _, part in taken])
+        places = {place for place, _ in taken}
+        left = [it for it in left if it[0] not in places]
+    return [text for (name, _), part in sorted(counted, key=place_of) for text in (name, *part.texts)]
+
+
+def place_of(pair):
+    return pair[0]
+
+
+def as_text(text):
+    return text if isinstance(text, str) else text.decode("utf-8", "surrogateescape")
+
 
 class Crate:
     """What the verdicts on a crate's edits rest on, of its own files, and what those on edits of a crate above do. Each is a list of texts."""
@@ -136,6 +205,11 @@ class Crate:
         # (a function may stand under another name where it is called)
         self.renamed = " ".join(use for it in self.sources.values() for use in f"{it.uses}\n{it.rest}".split("\n") if " as " in use)
 
+    def words(self):
+        """All words that stand in it, and the files that it imports."""
+        uses = [use for it in self.sources.values() for use, _ in it.imports]
+        return words_of("\n".join([*map(as_text, self.told.values()), *uses]))
+
     def whole(self):
         return [it for path, text in self.told.items() for it in (path, text)]
 
@@ -143,14 +217,22 @@ class Crate:
         """The specs, the lemmas, and what else is no source and no function's proof."""
         return [it for path, text in self.told.items() if path not in self.sources and path not in self.proofs for it in (path, text)]
 
+    @functools.lru_cache(maxsize=None)
     def shown(self):
-        """What a crate above can read of it: that is not how a function does what its contract says, and no function that the crate keeps to
-        itself."""
-        found = self.stated()
+        """What a crate above can read of it, in parts: that is not how a function does what its contract says, and no function that the crate
+        keeps to itself. Each part has the names of which one must stand in a text for the text to cite it; none where it counts for each."""
+        found = []
+        for path, text in self.told.items():
+            if path in self.sources or path in self.proofs:
+                continue
+            room = path.removesuffix(".antt").replace("/", ".")
+            if room.endswith(".Lib"):  # (a list of files)
+                found += [({f"{room.removesuffix('Lib')}{it[1]}"}, [path, it[0]]) for it in LISTED.finditer(as_text(text))]
+            else:
+                found.append(({room} if path.endswith(".antt") else set(), [path, text]))
         for path, source in self.sources.items():
-            heads = [it.head for it in source.functions if it.is_of_trait or it.is_public]
-            found += [path, source.with_imports("\n".join([source.rest, *heads]))]
-        return found
+            found += source.parts(path)
+        return [Part(names, texts) for names, texts in found]
 
     def frame(self):
         """What each function of the crate can rest on."""
@@ -168,7 +250,7 @@ class Crate:
         names = {*(f"+{it}" for it in cycles), *(it.name for _, it in ring)}
         # (what belongs to no function that is known counts for each)
         proofs = [at for at, name in self.proofs.items() if name in names or name not in self.names and not name.startswith("+")]
-        found = [text for at in {it: None for it, _ in ring} for text in (at, self.sources[at].uses)]
+        found = [text for at in {it: None for it, _ in ring} for text in (at, *sorted({use for use, _ in self.sources[at].imports}))]
         found += [text for at, it in ring for text in (at, it.text)]
         found += [text for at in proofs for text in (at, self.told[at].decode("utf-8", "surrogateescape"))]
         words = {*WORD.findall(" ".join([edit, self.renamed, *found]))}
@@ -263,7 +345,8 @@ impl Number {
     fn unused() {}
 }
 """,
-    "specs/Numbers.antt": "twice x = x + x\n",
+    "specs/Numbers.antt": "use A.{b, c}\ntwice x = x + x\nthrice x = x + sum x\n",
+    "specs/Sums.antt": "sum x = x + x\n",
     "proofs/Lemmas.antt": "one : 1 ≡ 1\n",
     "proofs/double/Answers.antt": "returns = one\n",
     "proofs/triple/Answers.antt": "returns = two\n",
@@ -282,24 +365,46 @@ CHANGES = [
     ("src/more.rt", "{ result ≡ twice x }", "{ result ≡ x + x }", True, False),
     ("src/more.rt", "fn unused() {}", "fn unused() {\n        shift(1);\n    }", False, False),
     ("src/more.rt", "fn unused() {}", "fn not_used() {}", False, False),
-    ("src/more.rt", "    fn unused() {}", "    pub fn unused() {}", False, True),
+    ("src/more.rt", "    fn unused() {}", "    pub fn unused() {}", False, False),
+    ("src/more.rt", "    fn unused() {}", "    pub fn sum() {}", False, True),
+    ("src/lib.rt", "mod more;", "mod more;\npub use more::most;", True, False),
     ("specs/Numbers.antt", "x + x", "2 * x", True, True),
-    ("proofs/Lemmas.antt", "1 ≡ 1", "2 ≡ 2", True, True),
+    ("specs/Numbers.antt", "use A.{b, c}", "use A.{c}\nuse A.{b}", False, False),
+    ("specs/Numbers.antt", "use A.{b, c}", "use A.{b}\nuse B.{c}", True, True),
+    ("specs/Sums.antt", "x + x", "2 * x", True, False),
+    ("proofs/Lemmas.antt", "1 ≡ 1", "2 ≡ 2", True, False),
     ("proofs/double/Answers.antt", "one", "two", True, False),
     ("proofs/triple/Answers.antt", "two", "one", False, False),
 ]
 
 
+ABOVE = {
+    "src/lib.rt": """use tried::{double, triple, Number};
+ghost use Rattle.tried.specs.Numbers.{twice};
+
+pub fn fourfold(x: u8) -> u8
+    ensures { result ≡ twice (twice x) }
+{
+    double(double(x))
+}
+""",
+}
+
+
+def crate_of(texts, room):
+    for path, text in texts.items():
+        file = pathlib.Path(room, path)
+        file.parent.mkdir(parents=True, exist_ok=True)
+        file.write_text(text, encoding="utf-8")
+    return Crate(pathlib.Path(room))
+
+
 def resting(texts):
-    """What a verdict on an edit of `double` rests on in a crate of these files, and what one of a crate above."""
-    with tempfile.TemporaryDirectory() as room:
-        for path, text in texts.items():
-            file = pathlib.Path(room, path)
-            file.parent.mkdir(parents=True, exist_ok=True)
-            file.write_text(text, encoding="utf-8")
-        crate = Crate(pathlib.Path(room))
+    """What a verdict on an edit of `double` rests on in a crate of these files, and what one of a crate above does."""
+    with tempfile.TemporaryDirectory() as room, tempfile.TemporaryDirectory() as upper:
+        crate, above = crate_of(texts, room), crate_of(ABOVE, upper)
         changed = [it for _, it in crate.functions if it.name == "double"]
-        return crate.frame() + crate.of_functions(changed, ""), crate.shown()
+        return crate.frame() + crate.of_functions(changed, ""), cited(above, {"tried": crate})
 
 
 def try_itself():
