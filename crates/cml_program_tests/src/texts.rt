@@ -54,23 +54,29 @@ fn beginnings_of_a_schedule(rt: HostRuntime) -> Result<(), Fail> {
 }
 
 #[test]
+fn random_texts(rt: HostRuntime) -> Result<(), Fail> {
+    let mut texts = RandomTexts::new(1);
+    for _ in 0..10_000 {
+        let text = texts.next();
+        for line in ["check F", "fmt F"] {
+            let left = run_beside(&rt, line, text)?;
+            assert!(rt; matches!(left.status, 0 | 2), "{line}");
+            drop(left);
+        }
+    }
+    Ok(())
+}
+
+#[test]
 fn random_scripts_and_schedules(rt: HostRuntime) -> Result<(), Fail> {
     let mut texts = RandomTexts::new(2);
     for _ in 0..10_000 {
         let text = texts.next();
-        for (line, status) in [
-            ("check F", 2),
-            ("run F", 2),
-            ("replay A F", 3),
-            ("replay F F", 2),
-        ] {
+        for (line, status) in [("run F", 2), ("replay A F", 3), ("replay F F", 2)] {
             let left = run_beside(&rt, line, text)?;
             assert!(rt; left.status == status && left.output.is_empty(), "{line}");
             drop(left);
         }
-        let left = run_beside(&rt, "fmt F", text)?;
-        assert!(rt; matches!(left.status, 0 | 2));
-        drop(left);
     }
     Ok(())
 }
