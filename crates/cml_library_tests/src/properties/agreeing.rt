@@ -1,6 +1,7 @@
 //! Runs that print alike, and which of several runs break a property.
 
-use crate::making::{MEMORY, property_of};
+use crate::making::MEMORY;
+use crate::properties::property_of;
 use cml_properties::{Finish, Run, agree, breaches};
 use std::process::Abort;
 use std::rt::HostRuntime;

@@ -18,32 +18,27 @@ fn says(rt: &(impl Abort + AllocGlobal), reason: Reason, expected: &str) {
 }
 
 // What is said of a fault of a step, where no value is told.
-const TOLD: [(Fault, &str); 9] = [
-    (Fault::Kind, "a value is not of the kind that is wanted"),
-    (
-        Fault::Overflow,
-        "a sum, difference or product does not fit into 64 bits",
-    ),
-    (Fault::Range, "a number of ticks is negative"),
-    (
-        Fault::Deep,
-        "a value or an event nests deeper than 64, or has more than 65536 parts",
-    ),
-    (
-        Fault::Stack,
-        "calls nest too deep: a stack has at most 1024 entries",
-    ),
-    (Fault::Put, "a variable that is full can't be put"),
-    (Fault::Leaves, "an event has more than 256 base events"),
-    (Fault::Far, "a tick is too far away"),
-    (Fault::Full, "there is no room for more"),
-];
+fn tells(rt: &(impl Abort + AllocGlobal), why: Fault, expected: &str) {
+    says(rt, Reason::Step(why, Part::Other), expected);
+}
 
 #[test]
 fn says_what_is_at_fault_without_a_value(rt: HostRuntime) {
-    for &(why, expected) in &TOLD {
-        says(&rt, Reason::Step(why, Part::Other), expected);
-    }
+    let rt = &rt;
+    let kind = "a value is not of the kind that is wanted";
+    tells(rt, Fault::Kind, kind);
+    let overflow = "a sum, difference or product does not fit into 64 bits";
+    tells(rt, Fault::Overflow, overflow);
+    tells(rt, Fault::Range, "a number of ticks is negative");
+    let deep = "a value or an event nests deeper than 64, or has more than 65536 parts";
+    tells(rt, Fault::Deep, deep);
+    let stack = "calls nest too deep: a stack has at most 1024 entries";
+    tells(rt, Fault::Stack, stack);
+    tells(rt, Fault::Put, "a variable that is full can't be put");
+    let leaves = "an event has more than 256 base events";
+    tells(rt, Fault::Leaves, leaves);
+    tells(rt, Fault::Far, "a tick is too far away");
+    tells(rt, Fault::Full, "there is no room for more");
 }
 
 #[test]

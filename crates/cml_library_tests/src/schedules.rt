@@ -54,13 +54,3 @@ fn each_end_is_told(rt: HostRuntime) {
     has_ends(&rt, MESSAGES, 2);
     has_ends(&rt, TWO_WAITS, 3);
 }
-
-#[test]
-fn a_search_that_reaches_its_bound_says_so(rt: HostRuntime) {
-    let program = program_of(&rt, LOCKS);
-    let verdict = verify(rt.alloc(), &program, 1).expect(&rt, MEMORY);
-    assert!(rt; verdict.reach.is_some(), "reach");
-    assert!(rt; verdict.ends.is_empty(), "ends");
-    drop(verdict);
-    drop(program);
-}

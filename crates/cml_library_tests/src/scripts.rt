@@ -1,26 +1,22 @@
-//! What is said of faults of scripts: of each keyword, of what is wanted at each place, and of faults that a script does not have, or that take a long
-//! script.
+//! What is said of faults of scripts and texts: of each keyword, of what is wanted at each place, and of faults that a script or a text does
+//! not have, or that take a long script.
 
 use crate::making::{MEMORY, forms};
 use cml_check::{CheckFault, CheckKind, Word, check};
-use cml_explain::{ScriptTrouble, Trouble, explain_script, write_script};
-use cml_text::Sexpr;
+use cml_explain::{ScriptTrouble, Trouble, explain_script, explain_text, write_script};
+use cml_text::{FaultKind, Sexpr};
 use std::process::Abort;
 use std::rt::HostRuntime;
 
-// What is said of a fault of the script.
-fn says(
-    rt: &(impl Abort + AllocGlobal),
-    script: &str,
-    forms: &[Sexpr],
-    kind: CheckKind,
-    at: usize,
-    expected: &str,
-) {
+// What the script is told at this fault, which it need not have.
+fn says(rt: &(impl Abort + AllocGlobal), script: &str, kind: CheckKind, at: usize, expected: &str) {
+    let forms = forms(rt, script);
     let text = script.as_bytes();
-    let said = explain_script(rt.alloc(), "a.cml", text, forms, kind, at).expect(rt, MEMORY);
-    assert!(rt; said.as_slice() == expected.as_bytes(), "{expected}");
+    let said = explain_script(rt.alloc(), "a.cml", text, forms.as_slice(), kind, at);
+    let said = said.expect(rt, MEMORY);
+    assert!(rt; said.as_slice() == expected.as_bytes());
     drop(said);
+    drop(forms);
 }
 
 // Scripts with a fault, and the sentence on it.
@@ -136,47 +132,47 @@ fn says_what_each_keyword_takes_and_what_is_wanted(rt: HostRuntime) {
     }
 }
 
-// What a script is told at a fault that it does not have, or that takes a long script.
-const TOLD: [(&str, CheckKind, usize, &str); 5] = [
-    (
+#[test]
+fn explains_what_the_script_does_not_have(rt: HostRuntime) {
+    says(
+        &rt,
         "(fn main ())",
         CheckKind::Form,
         2,
         "a.cml:1:3: this form does not fit here\n",
-    ),
-    (
+    );
+    says(
+        &rt,
         "(fn main () (call g))",
         CheckKind::Arity,
         18,
         "a.cml:1:19: `g` takes another number of values\n1 | (fn main () (call g))\n  |                   ^\n",
-    ),
-    (
+    );
+    says(
+        &rt,
         "(fn main () (return (choose 1)))",
         CheckKind::Form,
         20,
         "a.cml:1:21: choose takes events, and is given 1 part\n1 | (fn main () (return (choose 1)))\n  |                     ^^^^^^^^^^\n",
-    ),
-    (
+    );
+}
+
+#[test]
+fn explains_what_takes_a_long_script(rt: HostRuntime) {
+    says(
+        &rt,
         "(fn main ())",
         CheckKind::Limit,
         0,
         "a.cml:1:1: a script has at most 1024 functions\n1 | (fn main ())\n  | ^^^^^^^^^^^^\n",
-    ),
-    (
+    );
+    says(
+        &rt,
         "(fn main () (yield))",
         CheckKind::Limit,
         12,
         "a.cml:1:13: a script has at most 4096 statements\n1 | (fn main () (yield))\n  |             ^^^^^^^\n",
-    ),
-];
-
-#[test]
-fn explains_what_the_script_does_not_have(rt: HostRuntime) {
-    for &(script, kind, at, expected) in &TOLD {
-        let forms = forms(&rt, script);
-        says(&rt, script, forms.as_slice(), kind, at, expected);
-        drop(forms);
-    }
+    );
 }
 
 // No list that begins with `do` has too many parts.
@@ -192,6 +188,14 @@ fn says_what_a_block_takes(rt: HostRuntime) {
     };
     let said = write_script(rt.alloc(), "a.cml", b"", &trouble).expect(&rt, MEMORY);
     let expected = b"a.cml:1:1: do takes statements, and is given 2 parts\n";
+    assert!(rt; said.as_slice() == expected.as_slice());
+    drop(said);
+}
+
+#[test]
+fn explains_what_the_text_does_not_have(rt: HostRuntime) {
+    let said = explain_text(rt.alloc(), "", b"(a)", FaultKind::Character, 9).expect(&rt, MEMORY);
+    let expected = b":1:4: `` is neither a number nor a name\n1 | (a)\n  |    ^\n";
     assert!(rt; said.as_slice() == expected.as_slice());
     drop(said);
 }

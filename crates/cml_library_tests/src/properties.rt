@@ -1,10 +1,13 @@
-//! Properties and lines for tests.
+//! Properties of runs: what they mean, by examples, and their words.
 
+mod agreeing;
+mod breaking;
+mod matching;
+mod reading;
+
+use crate::making::MEMORY;
 use cml_properties::{Line, Property, properties};
 use std::process::Abort;
-
-/// What a test says that meets no memory.
-pub const MEMORY: &str = "out of memory";
 
 /// The lines of a text, as they are printed.
 pub fn lines_of<'a>(rt: &(impl Abort + AllocGlobal), text: &'a str) -> Vec<Line<'a>> {

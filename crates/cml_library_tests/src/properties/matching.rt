@@ -1,6 +1,7 @@
 //! Which lines match a pattern.
 
-use crate::making::{MEMORY, property_of};
+use crate::making::MEMORY;
+use crate::properties::property_of;
 use cml_properties::{Finish, Line, broken};
 use std::process::Abort;
 use std::rt::HostRuntime;

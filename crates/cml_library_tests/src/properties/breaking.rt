@@ -1,6 +1,6 @@
 //! Where runs break properties.
 
-use crate::making::{lines_of, property_of};
+use crate::properties::{lines_of, property_of};
 use cml_properties::{Finish, Watch, broken};
 use std::process::Abort;
 use std::rt::HostRuntime;
