@@ -1,18 +1,16 @@
 -- What holds of all kinds and of all runs: each kind has its word, broken properties stay broken, runs agree by a third, and no breach is left out.
 use Rattle.std.proofs.Common.{◌≡◌, ℕ, zero, suc, ◌+◌, ◌<◌, Bool, true, false, List, [], ◌∷◌, ◌++◌, length, get_or, refl, sym, ◌∙◌, subst, arith, inl, inr}
-use Rattle.std.specs.Prelude.{All, Contains}
+use Rattle.std.specs.Prelude.{Contains}
 use Rattle.std.proofs.lemmas.Bool.{both_ways}
 use Rattle.std.proofs.lemmas.List.Sorted.{IsPermutation-trans, IsPermutation-sym}
 use Rattle.cml_text.specs.Lines.{lines}
 use Rattle.cml_properties.specs.declared.breach.Run.{Run}
 use Rattle.cml_properties.specs.declared.property.Property.{Property}
 use Rattle.cml_properties.specs.declared.property.Property.TheVariants.{Never, Always, Once, Before, SameLines, SameOrder, Empty}
-use Rattle.cml_properties.specs.declared.property.Finish.{Finish}
 use Rattle.cml_properties.specs.declared.property.Finish.TheVariants.{GoesOn}
 use Rattle.cml_properties.specs.Breaches.{KeepsBeside, AreBreachesFrom}
 use Rattle.cml_properties.specs.declared.kind.PropertyKind.TheVariants as kind
 use Rattle.cml_properties.specs.Laws.{EachHasItsWord, StaysBroken, AgreeByAThird, NoBreachIsLeftOut}
-use Rattle.cml_properties.specs.Lines.{PlainLine}
 use Rattle.cml_properties.specs.Properties.{keeps}
 use Rattle.cml_properties.proofs.BreakLemmas.{kept_open}
 use Rattle.cml_properties.proofs.HoldLemmas.{kept_front}
