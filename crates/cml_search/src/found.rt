@@ -250,6 +250,7 @@ pub fn all_states<Y: System>(
     requires { 0 < bound }
     ensures search { IfOk result (λ f. IsSearch (Y.rules system.now) f.quietly f.followed (map (Y.state_of system.now) f.kept.keys) f.origins.items) }
     ensures any { IfOk result (λ f. f.quietly ≡ false) }
+    ensures whole { IfOk result (λ f. IsTrue f.whole → f.followed ≡ length f.kept.keys) }
     ensures stopped { IfOk result (λ f. f.whole ≡ false → f.followed < length f.kept.keys) }
     ensures full { IfOk result (λ f. f.whole ≡ false → bound < length f.kept.keys) }
     ensures bounded { IfOk result (λ f. IsTrue f.whole → length f.kept.keys ≤ bound) }
@@ -270,6 +271,7 @@ pub fn all_ends<Y: System>(
 ) -> Result<Found<Y::Kept, Y::Item>, Gap>
     requires { 0 < bound }
     ensures search { IfOk result (λ f. IsSearch (Y.rules system.now) f.quietly f.followed (map (Y.state_of system.now) f.kept.keys) f.origins.items) }
+    ensures whole { IfOk result (λ f. IsTrue f.whole → f.followed ≡ length f.kept.keys) }
     ensures stopped { IfOk result (λ f. f.whole ≡ false → f.followed < length f.kept.keys) }
     ensures full { IfOk result (λ f. f.whole ≡ false → bound < length f.kept.keys) }
     ensures bounded { IfOk result (λ f. IsTrue f.whole → length f.kept.keys ≤ bound) }
