@@ -1,6 +1,6 @@
 //! Every schedule of a program.
 
-ghost use Rattle.std.specs.Prelude.{◌≡◌, ◌<◌, List, IfOk, IfSome, IsTrue, true, false, Contains, length, map};
+ghost use Rattle.std.specs.Prelude.{◌≡◌, ◌<◌, List, IfOk, IfSome, IfNone, IsTrue, true, false, Contains, length, map};
 ghost use Rattle.std.specs.List.{All};
 ghost use Rattle.cml_schedule.specs.declared.item.Item.{Item};
 ghost use Rattle.cml_search.specs.{Systems.{IsReached}, Searches.{IsSearch, IsSought}};
@@ -24,7 +24,8 @@ pub struct Verdict {
     pub ends: Vec<Vec<Item>>,
     /// How many states were found, no two of them the same.
     pub states: usize,
-    /// Nothing, if every schedule was examined. Else the bound was reached, and the schedules of at most so many items were examined.
+    /// Nothing, if every schedule was examined. Else the search stopped at the first state beyond the bound, and the schedules of at most so many
+    /// items were examined.
     pub reach: Option<usize>,
 }
 
@@ -58,6 +59,7 @@ fn reach_of(system: &Schedules, found: &Found<Kept, Item>) -> Option<usize>
     ensures all { (items : List Item) (c : Core) → IsWithin result items → IsSought (program_system (text_of system.now.program) system.now.with_output) false items c
         → Contains (map (core_kept system.now.program) found.now.kept.keys) c }
     ensures stopped { IfSome result (λ most. found.now.whole ≡ false) }
+    ensures whole { IfNone result (IsTrue found.now.whole) }
 {
     if found.is_whole() {
         return None;

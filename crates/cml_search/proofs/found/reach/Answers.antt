@@ -21,9 +21,14 @@ loop-at-preserved g c =
           omega (arith, deep, before.counts d n);
     }
 
-pub returns : goal.returns
-returns g c =
+pub returns-clause-found : goal.returns-clause-found
+returns-clause-found g c =
     let found = c.args.found.now in
     let f = g.Y.System.state_of c.args._system.now in
     found_within (g.Y.System.rules c.args._system.now) (g.met.Y.System.lawful c.args._system.now) found.quietly found.followed (map f found.kept.keys) found.origins.items c.requires.search
     (omega (arith, length-map found.kept.keys f, c.requires.stopped)) c.loop-at.count c.loop-at.at (omega arith) c.loop-at.invariant.counts
+
+pub returns-clause-depth : goal.returns-clause-depth
+returns-clause-depth g c = λ d n.
+    let first : c.loop-at.at ≡ 0 = omega arith in
+    omega (arith, c.loop-at.invariant.counts d n, ap d first, n.start)
