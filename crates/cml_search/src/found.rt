@@ -1,6 +1,6 @@
 //! The states that a search finds.
 
-ghost use Rattle.std.specs.Prelude.{Contains, ◌≡◌, ◌<◌, ◌≤◌, ◌+◌, ◌++◌, ℕ, Bool, List, [], ◌∷◌, length, map, slice_get, false, true, IfOk, OnOk, IfSome, IsSome, IsTrue};
+ghost use Rattle.std.specs.Prelude.{Contains, ◌≡◌, ◌<◌, ◌≤◌, ◌+◌, ◌++◌, ℕ, Bool, List, [], ◌∷◌, Some, length, map, slice_get, false, true, IfOk, OnOk, IfSome, IsSome, IsTrue};
 ghost use Rattle.std.specs.List.{All};
 ghost use Rattle.cml_search.specs.Systems.{run, IsReached, IsTerminal, IsSchedule, LeadsTo, LeadsInto};
 ghost use Rattle.indexmap.specs.IndexSet.{IsUnique};
@@ -306,6 +306,8 @@ pub fn reach<Y: System>(_system: &Y, found: &Found<Y::Kept, Y::Item>) -> usize
     requires search { IsSearch (Y.rules _system.now) found.now.quietly found.now.followed (map (Y.state_of _system.now) found.now.kept.keys) found.now.origins.items }
     requires stopped { found.now.followed < length found.now.kept.keys }
     ensures depth { (d : ℕ → ℕ) → Depths found.now.origins.items d → result ≡ d found.now.followed }
+    ensures near { (k : ℕ) (s : Y.State) → slice_get (map (Y.state_of _system.now) found.now.kept.keys) k ≡ Some s
+        → (items : List Y.Item) × (run (Y.rules _system.now) (Y.rules _system.now).start items ≡ Some s) × (length items ≤ result + 1) }
     ensures found { (items : List Y.Item) (s : Y.State) → IsSought (Y.rules _system.now) found.now.quietly items s → length items ≤ result → Contains (map (Y.state_of _system.now) found.now.kept.keys) s }
 {
     let mut count = 0;

@@ -1,5 +1,5 @@
 -- What is promised of a search of every schedule of a program.
-use Rattle.std.specs.Prelude.{◌≡◌, ℕ, ◌+◌, ◌≤◌, Bool, true, false, List, length, map, Option, Some, None, IfSome, IfNone, slice_get, Contains}
+use Rattle.std.specs.Prelude.{◌≡◌, ℕ, ◌+◌, ◌≤◌, Bool, true, false, List, length, map, Option, Some, None, IfSome, IfNone, option_map, slice_get, Contains}
 use Rattle.std.specs.List.{All}
 use Rattle.cml_value.specs.Value.{PlainFunction}
 use Rattle.cml_check.specs.Syntax.{PlainItem}
@@ -69,12 +69,12 @@ pub record StandsSo (p : List (PlainItem ℕ)) (with_output : Bool) (schedule : 
   pub faults : fault_count (text_of p) schedule ≡ s.faults
   pub printed : output_if with_output run.output ≡ s.printed
 
--- No two of these states are the same. The threads of each stand in the program. A schedule leads to each, and each schedule (of at most so
--- many items) leads to one of them.
+-- No two of these states are the same. The threads of each stand in the program. A schedule leads to each (of at most one item more than so
+-- many), and each schedule (of at most so many items) leads to one of them.
 pub record AreStates (p : List (PlainItem ℕ)) (with_output : Bool) (most : Option ℕ) (states : List RunState) : Type 0 where
   pub different : (j k : ℕ) (s : RunState) → slice_get states j ≡ Some s → slice_get states k ≡ Some s → j ≡ k
   pub placed : All (λ s. AreThreadsIn p s.machines) states
-  pub reached : All (λ s. (schedule : List Item) × StandsSo p with_output schedule s) states
+  pub reached : All (λ s. (schedule : List Item) × StandsSo p with_output schedule s × IsWithin (option_map (λ m. m + 1) most) schedule) states
   pub each : (schedule : List Item) (run : Run) → IsWithin most schedule → stands (text_of p) schedule ≡ Some run
       → (s : RunState) × Contains states s × StandsSo p with_output schedule s
 

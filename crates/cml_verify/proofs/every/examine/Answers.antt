@@ -37,5 +37,5 @@ returns c =
       counted =
           are_counted p o keys most all c.kept-kept.ensures.once
           (subst (All (λ (one : PlainKept). AreThreadsIn p one.machines)) c.kept-kept.ensures.kept (c.all_placed.ensures (grind arith)))
-          (rw c.in_ok-again.ensures at c.in_ok-found.ensures.search.keeps.reached) c.count_of-states.result c.count_of-states.ensures;
+          (rw c.in_ok-again.ensures at c.reach_of-reach.ensures.led) c.count_of-states.result c.count_of-states.ensures;
     }
