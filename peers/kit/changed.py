@@ -6,8 +6,12 @@ from kit.outcomes import Offer, Party, Search, State, Thread, branches, event_of
 
 # Each change, with the keywords without one of which a script has the same outcomes as ever.
 EARLY, OWN, LEFT, EMPTY = "early offers", "own nacks", "nacks of what is left", "silent empty choices"
-BEHIND, NOTED, LAST = "nacks behind the wraps", "late notes", "last in first out"
-RULES = {EARLY: {"guard", "withnack"}, OWN: {"withnack"}, LEFT: {"withnack"}, EMPTY: {"withnack"}, BEHIND: {"withnack"}, NOTED: {"copy"}, LAST: {"mail"}}
+PARTNER, NOTED = "partners lost to nacks", "late notes"
+BEHIND, RAISES = "nacks behind the wraps", "empty choices raise"
+LAST = "last in first out"
+RULES = {EARLY: {"guard", "withnack"}, OWN: {"withnack"}, LEFT: {"withnack"}, EMPTY: {"withnack"}, PARTNER: {"withnack"}, NOTED: {"copy"},
+         BEHIND: {"withnack"}, RAISES: {"choose"}, LAST: {"mail"}}
+MATCH, CHOOSE = "fault Match", 'fault Invalid_argument("Event.choose")'
 
 
 def outcomes(text: str, rules: frozenset[str], states: int) -> frozenset[tuple[tuple[str, ...], tuple[str, ...]]]:
@@ -89,6 +93,11 @@ def has_leaf(tree: Tree) -> bool:
     return True
 
 
+def watching(thread: Thread, offer: Offer, nacks: list[tuple]) -> Iterator[Offer]:
+    """What the event of this offer offers beside it that waits for one of these nacks."""
+    return (other._replace(place=offer.place) for other in offers(offer.thread, event_of(thread, offer)) if other.base[1] == "nack" and other.base[2] in nacks)
+
+
 class Changed(Search):
     """The states of a script by the changed rules."""
     machine_of = ChangedMachine
@@ -110,9 +119,12 @@ class Changed(Search):
         return state
 
     def turned(self, state: State, number: int) -> State:
+        """With RAISES, who waits for an empty choice ends at a fault."""
         after = super().turned(state, number)
         thread = after.threads[number]
-        return with_thread(after, number, thread._replace(waits_on=in_order(thread.waits_on))) if EARLY in self.rules and thread.waits_on else after
+        if EARLY in self.rules and thread.waits_on:
+            return with_thread(after, number, thread._replace(waits_on=in_order(thread.waits_on)))
+        return self.left(after, number, CHOOSE) if RAISES in self.rules and thread.waits_on and not has_leaf(thread.waits_on) else after
 
     def turns(self, state: State, number: int) -> Iterator[State]:
         thread = state.threads[number]
@@ -165,15 +177,21 @@ class Changed(Search):
                 if nack not in kept and (state != "fired" or BEHIND not in self.rules)}
 
     def commits(self, state: State, parties: list[Party], objects: Mapping[Value, tuple]) -> Iterator[State]:
-        """With OWN, who waited for a nack of its own wait may go on by it, in place of what was taken."""
+        """With OWN, who waited for a nack of its own wait may go on by it, in place of what was taken. With PARTNER, of two that communicate one may
+        go on by a nack of the other, who then ends at a fault."""
         after = self.gone_on(state, parties, objects)
         yield after
-        for offer, _ in parties if OWN in self.rules else []:
+        for offer, _ in parties:
             thread = state.threads[offer.thread]
             decided = self.decided(thread, offer)
-            for own in offers(offer.thread, event_of(thread, offer)):
-                if own.base[1] == "nack" and decided.get(own.base[2]) == "fired":
-                    yield with_thread(after, offer.thread, self.resumed(thread, own._replace(place=offer.place), UNIT))
+            fired = [nack for nack, content in decided.items() if content == "fired"]
+            if OWN in self.rules:
+                for own in watching(thread, offer, fired):
+                    yield with_thread(after, offer.thread, self.resumed(thread, own, UNIT))
+            for other, _ in parties if PARTNER in self.rules else []:
+                for theirs in watching(state.threads[other.thread], other, fired) if other.thread != offer.thread else []:
+                    lost = self.left(state._replace(nacks=frozenset({**dict(state.nacks), **decided}.items())), offer.thread, MATCH)
+                    yield self.gone_on(lost, [Party(theirs, UNIT)], {})
 
     def left(self, state: State, number: int, end: str) -> State:
         """With LEFT, the nacks of a sync fire that the thread leaves by its end, in a guard."""

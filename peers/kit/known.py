@@ -16,16 +16,12 @@ UNDECIDED = "not decided: more states than are asked for"
 
 @dataclass(frozen=True)
 class Way:
-    """A way: of which peer, its name, what is so, the script that shows it, and by what an outcome is known:
-    `fault F` (a thread ends at F), or `as R` (some schedule gives the outcome if rule R of changed.RULES is changed)."""
+    """A way: of which peer, its name, what is so, the script that shows it, and which rule of changed.RULES gives its outcomes."""
     peer: str
     name: str
     what: str
     script: str
-    by: str
-
-    def rule(self) -> str | None:
-        return self.by.removeprefix("as ") if self.by.startswith("as ") else None
+    rule: str
 
 
 def ways_of(peer: str) -> list[Way]:
@@ -35,7 +31,7 @@ def ways_of(peer: str) -> list[Way]:
 
 @dataclass
 class Explained:
-    """Explains outcomes of one script by the ways of a peer. A script may have so many states by the changed rules."""
+    """Explains outcomes of one script by the ways of a peer. By the changed rules the script may have so many states."""
     ways: list[Way]
     script: Script
     states: int = 200_000
@@ -44,35 +40,32 @@ class Explained:
     def by(self, outcome: Outcome) -> str | None:
         """The name of the way that explains the outcome, or the names of those that do so together; or that this is not decided."""
         decided = True
-        for names, rules in self.candidates(outcome):
+        for names, rules in self.candidates():
             allowed = self.allowed_by(rules)
-            if allowed is None:
-                decided = False
-            elif not rules or outcome in allowed:
+            if allowed is not None and outcome in allowed:
                 return names
+            decided = decided and allowed is not None
         return None if decided else UNDECIDED
 
-    def candidates(self, outcome: Outcome) -> Iterator[tuple[str, frozenset[str]]]:
-        """Each way by itself, with the rule that is changed (none, if a fault tells it); and all changes together."""
-        yield from ((way.name, frozenset()) for way in self.ways if way.by in outcome.threads)
-        changing = {rule: way.name for way in self.ways if (rule := way.rule()) and changed.RULES[rule] & words_of(self.script)}
-        yield from ((name, frozenset([rule])) for rule, name in changing.items())
-        if len(changing) > 1:
-            yield " and ".join(changing.values()), frozenset(changing)
+    def candidates(self) -> Iterator[tuple[str, frozenset[str]]]:
+        """Each way by itself, with its rule, and then all together; without those that change nothing of the script."""
+        ways = [way for way in self.ways if changed.RULES[way.rule] & words_of(self.script)]
+        yield from ((way.name, frozenset([way.rule])) for way in ways)
+        if len(ways) > 1:
+            yield " and ".join(way.name for way in ways), frozenset(way.rule for way in ways)
 
     def allowed_by(self, rules: frozenset[str]) -> frozenset[Outcome] | None:
-        """What these changed rules allow; None if that is not known."""
+        """What the rules allow with these changed; None if that is not known."""
         if rules not in self.allowed:
             try:
-                found = changed.outcomes(write(self.script), rules, self.states) if rules else ()
-                self.allowed[rules] = frozenset(Outcome(threads, lines) for lines, threads in found)
+                self.allowed[rules] = frozenset(Outcome(threads, lines) for lines, threads in changed.outcomes(write(self.script), rules, self.states))
             except (TooMany, Refused):
                 self.allowed[rules] = None
         return self.allowed[rules]
 
     def hangs(self) -> str | None:
         """The name of the way by which a run of the script may never end."""
-        return next((way.name for way in self.ways if way.rule() == changed.OWN and offers_own_nack(self.script)), None)
+        return next((way.name for way in self.ways if way.rule == changed.OWN and offers_own_nack(self.script)), None)
 
 
 def offers_own_nack(script: Script) -> bool:

@@ -3,6 +3,7 @@ import json
 import re
 import subprocess
 from dataclasses import dataclass
+from functools import cached_property
 from pathlib import Path
 
 from kit.outcome import Outcome
@@ -32,7 +33,18 @@ class Rules:
             path.write_text(write(script), encoding="utf-8")
             return self.of_file(path)
 
+    @cached_property
+    def starts(self) -> bool:
+        """Whether the command can be started. `./cml` is compiled at its first start, which takes minutes and is no part of `seconds`."""
+        try:
+            subprocess.run([self.command[0], "--help"], capture_output=True, check=False)
+        except OSError:
+            return False
+        return True
+
     def of_file(self, path: Path) -> frozenset[Outcome]:
+        if not self.starts:
+            raise Unknown(f"{self.command[0]} can't be started")
         try:
             done = subprocess.run([*self.command, str(path), "--states", str(self.states)], capture_output=True, text=True, timeout=self.seconds, check=False)
         except subprocess.TimeoutExpired as late:
