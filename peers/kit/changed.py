@@ -1,17 +1,40 @@
 """All outcomes of a small script by rules of which some are changed: as a peer is known to leave them, or as a wrong rule says."""
-from collections.abc import Iterator, Mapping
+from collections.abc import Callable, Iterator, Mapping
 
 from kit.machine import UNIT, Ask, Machine, Stack, Tree, Value, replaced, tree_of, unforced, with_nack
 from kit.outcomes import Offer, Party, Search, State, Thread, branches, event_of, offers, waiting, with_entry, with_nacks, with_thread
+from kit.rewrite import called_by, named
+from kit.script import Script, parts_of, words_of
 
-# Each change, with the keywords without one of which a script has the same outcomes as ever.
 EARLY, OWN, LEFT, EMPTY = "early offers", "own nacks", "nacks of what is left", "silent empty choices"
 PARTNER, NOTED = "partners lost to nacks", "late notes"
 BEHIND, RAISES = "nacks behind the wraps", "empty choices raise"
 LAST = "last in first out"
-RULES = {EARLY: {"guard", "withnack"}, OWN: {"withnack"}, LEFT: {"withnack"}, EMPTY: {"withnack"}, PARTNER: {"withnack"}, NOTED: {"copy"},
-         BEHIND: {"withnack"}, RAISES: {"choose"}, LAST: {"mail"}}
 MATCH, CHOOSE = "fault Match", 'fault Invalid_argument("Event.choose")'
+
+# Each change, with whether an outcome in which threads end so can come of it, as the script's text says.
+RULES: dict[str, Callable[[Script, tuple[str, ...]], bool]] = {
+    EARLY: lambda script, _: has(script, "choose") and (has(script, "guard") or has(script, "withnack")),
+    OWN: lambda script, _: any(keeps_nack(script, name) for name in called_by(script, "withnack")),
+    LEFT: lambda script, ends: has(script, "withnack") and (has(script, "exit") or any(end.startswith("fault") for end in ends)),
+    EMPTY: lambda script, _: has(script, "withnack") and any(form == ("choose",) for of in script for whole in of.body for form in parts_of(whole)),
+    PARTNER: lambda script, ends: has(script, "withnack") and MATCH in ends,
+    NOTED: lambda script, _: has(script, "copy"),
+    BEHIND: lambda script, _: has(script, "withnack") and has(script, "wrap"),
+    RAISES: lambda _, ends: CHOOSE in ends,
+    LAST: lambda script, _: has(script, "mail")}
+
+
+def has(script: Script, word: str) -> bool:
+    return word in words_of(script)
+
+
+def keeps_nack(script: Script, name: str) -> bool:
+    """Whether this function of a withNack does anything with its nack but give it to threads that it spawns."""
+    of = named(script)[name]
+    spawned = [form for whole in of.body for form in parts_of(whole) if isinstance(form, tuple) and form[:1] == ("spawn",)]
+    in_all, in_spawned = ([part for form in forms for part in parts_of(form)].count(of.parameters[-1]) for forms in (of.body, spawned))
+    return in_all > in_spawned
 
 
 def outcomes(text: str, rules: frozenset[str], states: int) -> frozenset[tuple[tuple[str, ...], tuple[str, ...]]]:

@@ -8,8 +8,7 @@ from kit.machine import Refused
 from kit.outcome import Outcome
 from kit.outcomes import TooMany
 from kit.peer import PEERS
-from kit.rewrite import called_by, named
-from kit.script import Script, parts_of, words_of, write
+from kit.script import Script, write
 
 UNDECIDED = "not decided: more states than are asked for"
 
@@ -34,22 +33,22 @@ class Explained:
     """Explains outcomes of one script by the ways of a peer. By the changed rules the script may have so many states."""
     ways: list[Way]
     script: Script
-    states: int = 200_000
+    states: int = 100_000
     allowed: dict[frozenset[str], frozenset[Outcome] | None] = field(default_factory=dict)  # by these changed rules
 
     def by(self, outcome: Outcome) -> str | None:
         """The name of the way that explains the outcome, or the names of those that do so together; or that this is not decided."""
         decided = True
-        for names, rules in self.candidates():
+        for names, rules in self.candidates(outcome):
             allowed = self.allowed_by(rules)
             if allowed is not None and outcome in allowed:
                 return names
             decided = decided and allowed is not None
         return None if decided else UNDECIDED
 
-    def candidates(self) -> Iterator[tuple[str, frozenset[str]]]:
-        """Each way by itself, with its rule, and then all together; without those that change nothing of the script."""
-        ways = [way for way in self.ways if changed.RULES[way.rule] & words_of(self.script)]
+    def candidates(self, outcome: Outcome) -> Iterator[tuple[str, frozenset[str]]]:
+        """Each way by itself, with its rule, and then all together; without those that this outcome can't come of."""
+        ways = [way for way in self.ways if changed.RULES[way.rule](self.script, outcome.threads)]
         yield from ((way.name, frozenset([way.rule])) for way in ways)
         if len(ways) > 1:
             yield " and ".join(way.name for way in ways), frozenset(way.rule for way in ways)
@@ -65,11 +64,4 @@ class Explained:
 
     def hangs(self) -> str | None:
         """The name of the way by which a run of the script may never end."""
-        return next((way.name for way in self.ways if way.rule == changed.OWN and offers_own_nack(self.script)), None)
-
-
-def offers_own_nack(script: Script) -> bool:
-    """Whether the event that some function of a `withnack` returns has the nack in it, as its text says."""
-    functions = [named(script)[name] for name in called_by(script, "withnack")]
-    return any(part == of.parameters[-1]
-               for of in functions for form in of.body if isinstance(form, tuple) and form[:1] == ("return",) for part in parts_of(form))
+        return next((way.name for way in self.ways if way.rule == changed.OWN and changed.RULES[changed.OWN](self.script, ())), None)

@@ -154,7 +154,7 @@ class Met:
         if wrong.outcome:
             allowed = frozenset(map(wrong.outcome, judged.allowed))
         elif wrong.rule:
-            allowed = Explained([], judged.script).allowed_by(frozenset([wrong.rule]))
+            allowed = Explained([], judged.script).allowed_by(frozenset([wrong.rule])) if changed.RULES[wrong.rule](judged.script, ()) else None
         else:
             script = wrong.script(judged.script)
             if script == judged.script:
