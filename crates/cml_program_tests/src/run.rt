@@ -1,6 +1,6 @@
 //! The program, over memory, and streams of which one call may fail.
 
-use crate::streams::{dripping, taking};
+use crate::streams::{reader_of, taking};
 use cml_host::{Store, run_command};
 use cml_memory::MemoryStore;
 use std::alloc::{AllocError, Global};
@@ -75,7 +75,7 @@ pub fn left_with(
 ) -> Result<Left, AllocError> {
     let alloc = rt.alloc();
     let words = words(alloc, line)?;
-    let mut reader = dripping(input.as_bytes(), good.reads);
+    let mut reader = reader_of(input.as_bytes(), good.reads);
     let mut output = taking(alloc, good.output, good.takes_nothing);
     let mut errors = taking(alloc, good.errors, good.takes_nothing);
     let status = run_command(

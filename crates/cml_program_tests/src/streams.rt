@@ -63,7 +63,7 @@ impl Write for Narrow {
 }
 
 /// A reader of these bytes.
-pub fn dripping(bytes: &[u8], good: usize) -> Dripping<'_> {
+pub fn reader_of(bytes: &[u8], good: usize) -> Dripping<'_> {
     Dripping {
         rest: bytes,
         interrupted: false,
