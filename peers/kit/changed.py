@@ -2,7 +2,8 @@
 from collections.abc import Callable, Iterator, Mapping
 
 from kit.machine import UNIT, Ask, Machine, Stack, Tree, Value, replaced, tree_of, unforced, with_nack
-from kit.outcomes import Offer, Party, Search, State, Thread, branches, event_of, offers, waiting, with_entry, with_nacks, with_thread
+from kit.outcomes import (Offer, Party, Search, State, Thread, branches, event_of, offers, own_choice, steps, waiting, with_entry, with_nacks,
+                          with_thread)
 from kit.rewrite import called_by, named
 from kit.script import Script, parts_of, words_of
 
@@ -130,8 +131,15 @@ class Changed(Search):
         self.rules = rules
         self.machine.early = EARLY in rules
 
-    # Early offers: from the beginning of a sync on, what it has of base events may be taken. The guards and withNacks are called in any order. If
-    # something is taken while one of them runs, this one goes on to its end, and of what it returns some may be called.
+    # Early offers: from the beginning of a sync on, what it has of base events may be taken; but none of it need be offered before the guards and
+    # withNacks have returned, which are called in any order. If something is taken while one of them runs, this one goes on to its end, and of what
+    # it returns some may be called.
+
+    def may_be_over(self, state: State, following: list[State]) -> bool:
+        if not following or EARLY not in self.rules:
+            return not following
+        still = own_choice(state) or any(thread.state == "runs" for thread in state.threads)
+        return not still and all(any(offer.place is not None for offer, _ in parties) for parties, _ in steps(state, self.offered(state)))
 
     def settled(self, state: State) -> State:
         state = super().settled(state)

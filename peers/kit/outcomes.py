@@ -130,7 +130,7 @@ class Search:
         while left:
             state = left.pop()
             following = list(self.following(state))
-            if not following:
+            if self.may_be_over(state, following):
                 found.add((state.lines, tuple(thread.state for thread in state.threads)))
             for other in map(self.settled, following):
                 if other not in seen:
@@ -139,6 +139,10 @@ class Search:
             if len(seen) > self.most:
                 raise TooMany(f"there are more than {self.most} states")
         return frozenset(found)
+
+    def may_be_over(self, _: State, following: list[State]) -> bool:
+        """Whether a run may end in this state, which these follow."""
+        return not following
 
     def following(self, state: State) -> Iterator[State]:
         """What can happen next: a turn of a thread; one or two threads that go on; else the time moves. Where a thread makes a choice that
