@@ -43,6 +43,11 @@ def outcomes(text: str, rules: frozenset[str], states: int) -> frozenset[tuple[t
     return Changed(text, states, rules).outcomes()
 
 
+def gives(text: str, rules: frozenset[str], states: int, lines: tuple[str, ...], ends: tuple[str, ...]) -> bool:
+    """Whether this is one of these outcomes. States that can't lead to it are not gone on from."""
+    return (lines, ends) in Changed(text, states, rules, (lines, ends)).outcomes()
+
+
 class ChangedMachine(Machine):
     """Where `early`, a thread asks before it calls a guard or a withNack. Two more entries of a stack: ("late", TREE), an event of which a branch
     was taken while a guard of it ran, and whose value counts no more; ("fires", NACKS, VALUE), nacks that fire once the value has come."""
@@ -126,10 +131,19 @@ class Changed(Search):
     """The states of a script by the changed rules."""
     machine_of = ChangedMachine
 
-    def __init__(self, text: str, most: int, rules: frozenset[str]):
+    def __init__(self, text: str, most: int, rules: frozenset[str], wanted: tuple[tuple[str, ...], tuple[str, ...]] | None = None):
         super().__init__(text, most)
         self.rules = rules
+        self.wanted = wanted
         self.machine.early = EARLY in rules
+
+    def is_wanted(self, state: State) -> bool:
+        """Whether what is wanted may still come of this state: what was printed is its beginning, and who has ended has ended so."""
+        if self.wanted is None:
+            return True
+        lines, ends = self.wanted
+        return state.lines == lines[:len(state.lines)] and len(state.threads) <= len(ends) and all(
+            thread.state in ("runs", "waits", end) for thread, end in zip(state.threads, ends))
 
     # Early offers: from the beginning of a sync on, what it has of base events may be taken; but none of it need be offered before the guards and
     # withNacks have returned, which are called in any order. If something is taken while one of them runs, this one goes on to its end, and of what

@@ -1,7 +1,7 @@
 """Known ways of a peer that leave the rules, and which outcomes each of them explains."""
 import json
 from collections.abc import Iterator
-from dataclasses import dataclass, field
+from dataclasses import dataclass
 
 from kit import changed
 from kit.machine import Refused
@@ -30,21 +30,27 @@ def ways_of(peer: str) -> list[Way]:
 
 @dataclass
 class Explained:
-    """Explains outcomes of one script by the ways of a peer. By the changed rules the script may have so many states."""
+    """Explains outcomes of one script by the ways of a peer. So many states are gone through for an outcome."""
     ways: list[Way]
     script: Script
     states: int = 100_000
-    allowed: dict[frozenset[str], frozenset[Outcome] | None] = field(default_factory=dict)  # by these changed rules
 
     def by(self, outcome: Outcome) -> str | None:
         """The name of the way that explains the outcome, or the names of those that do so together; or that this is not decided."""
         decided = True
         for names, rules in self.candidates(outcome):
-            allowed = self.allowed_by(rules)
-            if allowed is not None and outcome in allowed:
+            given = self.is_given(outcome, rules)
+            if given:
                 return names
-            decided = decided and allowed is not None
+            decided = decided and given is not None
         return None if decided else UNDECIDED
+
+    def is_given(self, outcome: Outcome, rules: frozenset[str]) -> bool | None:
+        """Whether some schedule gives the outcome with these rules changed; None if that is not decided."""
+        try:
+            return changed.gives(write(self.script), rules, self.states, outcome.lines, outcome.threads)
+        except (TooMany, Refused):
+            return None
 
     def candidates(self, outcome: Outcome) -> Iterator[tuple[str, frozenset[str]]]:
         """Each way by itself, with its rule, and then all together; without those that this outcome can't come of."""
@@ -52,15 +58,6 @@ class Explained:
         yield from ((way.name, frozenset([way.rule])) for way in ways)
         if len(ways) > 1:
             yield " and ".join(way.name for way in ways), frozenset(way.rule for way in ways)
-
-    def allowed_by(self, rules: frozenset[str]) -> frozenset[Outcome] | None:
-        """What the rules allow with these changed; None if that is not known."""
-        if rules not in self.allowed:
-            try:
-                self.allowed[rules] = frozenset(Outcome(threads, lines) for lines, threads in changed.outcomes(write(self.script), rules, self.states))
-            except (TooMany, Refused):
-                self.allowed[rules] = None
-        return self.allowed[rules]
 
     def hangs(self) -> str | None:
         """The name of the way by which a run of the script may never end."""

@@ -133,12 +133,16 @@ class Search:
             if self.may_be_over(state, following):
                 found.add((state.lines, tuple(thread.state for thread in state.threads)))
             for other in map(self.settled, following):
-                if other not in seen:
+                if other not in seen and self.is_wanted(other):
                     seen.add(other)
                     left.append(other)
             if len(seen) > self.most:
                 raise TooMany(f"there are more than {self.most} states")
         return frozenset(found)
+
+    def is_wanted(self, _: State) -> bool:
+        """Whether this state is gone on from."""
+        return True
 
     def may_be_over(self, _: State, following: list[State]) -> bool:
         """Whether a run may end in this state, which these follow."""

@@ -7,12 +7,13 @@ from dataclasses import dataclass, field
 
 from kit import changed
 from kit.judge import Judgement
-from kit.known import Explained
 from kit.outcome import Outcome
+from kit.outcomes import TooMany
 from kit.rewrite import called_by, everywhere, named
 from kit.rules import Rules, Unknown
-from kit.script import Form, Function, Script
+from kit.script import Form, Function, Script, write
 
+MOST = 100_000  # states by a changed rule
 ALWAYS_UNIT = ("always", "unit")
 FIRST = Function("the_first", ("is", "given"), (("return", "is"),))  # what a wrap makes of any value
 FED = Function("fed", ("box", "value"), (("mail", "box", "value"), ("return", ALWAYS_UNIT)))
@@ -154,7 +155,7 @@ class Met:
         if wrong.outcome:
             allowed = frozenset(map(wrong.outcome, judged.allowed))
         elif wrong.rule:
-            allowed = Explained([], judged.script).allowed_by(frozenset([wrong.rule])) if changed.RULES[wrong.rule](judged.script, ()) else None
+            allowed = self.by_changed(wrong.rule, judged.script)
         else:
             script = wrong.script(judged.script)
             if script == judged.script:
@@ -164,6 +165,13 @@ class Met:
             except Unknown:
                 return None
         return None if allowed in (None, judged.allowed) else allowed
+
+    def by_changed(self, rule: str, script: Script) -> frozenset[Outcome] | None:
+        try:
+            found = changed.outcomes(write(script), frozenset([rule]), MOST) if changed.RULES[rule](script, ()) else None
+        except TooMany:
+            return None
+        return None if found is None else frozenset(Outcome(threads, lines) for lines, threads in found)
 
     def told(self) -> str:
         return "".join(f"wrong rule {name} ({RULES[name].what}): met by {self.met.get(name, 0)} of the {self.changes.get(name, 0)} scripts it changes\n"
