@@ -1,7 +1,6 @@
 //! Steps that only set variables and choose places. What the variables had may be noted.
 
 ghost use Rattle.std.specs.Prelude.{◌≡◌, ◌<◌, ◌≤◌, ℕ, List, ◌∷◌, length, true, false, None, slice_set, IfSome};
-ghost use Rattle.cml_value.specs.Value.{int};
 ghost use Rattle.cml_check.specs.{Syntax.{name_at, expr_map, value as plain_source_value}, Names.{AreDistinct}, InOrder.{FunctionFits, arities, expr_fits}};
 ghost use Rattle.cml_check.specs.{Layout.{left}, Ops.{flat_expr, Sets, Tests, OpFollows, op_fits}};
 ghost use Rattle.cml_step.specs.{Agrees.{value_agrees, all_agree}, Terms.{Program, Term}, Plain.{StepsTo, RunsTo}};
@@ -16,22 +15,29 @@ use cml_check::{Expr, Flat, Function, Instr, Op, Prog, Source};
 use cml_value::{Value, ValueKind};
 use std::alloc::Global;
 
-// Sets a slot that has a number to another. Where that is not done nothing has changed.
+// Sets a slot that has a number to the value. Where that is not done nothing has changed.
 #[inline(always)]
-fn set_number(slots: &mut [Value], slot: usize, z: i64, sets: &mut Vec<Noted>, noting: bool) -> bool
-    ensures set { result ≡ true → slots.new ≡ slice_set slots.old slot (int z) }
+fn set_number(
+    slots: &mut [Value],
+    slot: usize,
+    value: Value,
+    sets: &mut Vec<Noted>,
+    noting: bool,
+) -> bool
+    ensures set { result ≡ true → slots.new ≡ slice_set slots.old slot value }
     ensures there { result ≡ true → slot < length slots.old }
     ensures noted { noting ≡ true → unset sets.new.items slots.new
         ≡ unset sets.old.items slots.old }
     ensures stays { result ≡ false → slots.new ≡ slots.old }
 {
     let Some(_) = number_in(slots, slot) else {
+        drop(value);
         return false;
     };
     if noting {
-        return set_slot(slots, slot, Value::new(ValueKind::Int(z)), sets);
+        return set_slot(slots, slot, value, sets);
     }
-    slots[slot] = Value::new(ValueKind::Int(z));
+    slots[slot] = value;
     true
 }
 
@@ -61,7 +67,7 @@ fn flat_set(
     ensures stays { result ≡ None → slots.new ≡ slots.old }
 {
     let z = flat_int(slots, e)?;
-    if !set_number(slots, slot, z, sets, noting) {
+    if !set_number(slots, slot, Value::new(ValueKind::Int(z)), sets, noting) {
         return None;
     }
     Some(next)

@@ -13,4 +13,4 @@ returns-clause-noted c =
     let n : Noted = record { slot = s; value = had } in
     let is = c.replace-had.ensures.value in
     ap (λ (ns : List Noted). unset ns (slice_set xs s c.replace-had.new.dest)) (c.push_reserved.ensures.items ∙ ap (λ (ns : List Noted). ns ++ n ∷ []) c.reserve.ensures.items)
-    ∙ set_noted c.args.sets.now.items xs s c.replace-had.new.dest had (is ∙ c.index-slots-slot.is ∙ ap (λ (y : PlainValue). get_or xs s y) (sym is))
+    ∙ set_noted c.args.sets.now.items xs s c.replace-had.new.dest had (is ∙ ap (λ (y : PlainValue). get_or xs s y) (c.index-slots-slot.is ∙ sym is))
