@@ -11,6 +11,9 @@ use cml_value::Value;
 use std::alloc::Global;
 use std::mem::replace;
 
+// The most sets that are noted: a long run of steps is better made without notes.
+const MAX_NOTED: usize = 16;
+
 /// A slot that was set, and what it had.
 #[derive(Drop)]
 pub(crate) struct Noted {
@@ -54,21 +57,24 @@ fn unset(slots: &mut Vec<Value>, sets: &mut Vec<Noted>)
     }
 }
 
-/// Puts the value into the slot, and notes what that had. Without memory nothing has changed.
+/// Puts the value into the slot, and notes what that had. Without memory, or where enough is noted, nothing has changed.
 #[inline(always)]
+#[tactic(auto, using(crate::proofs::UndoLemmas::noted_set))]
 pub(crate) fn set_slot(
-    slots: &mut Vec<Value>,
+    slots: &mut [Value],
     slot: usize,
     value: Value,
     sets: &mut Vec<Noted>,
 ) -> bool
-    requires { slot < length slots.old.items }
-    ensures set { result ≡ true → slots.new.items ≡ slice_set slots.old.items slot value }
-    ensures noted { plain_unset sets.new.items slots.new.items
-        ≡ plain_unset sets.old.items slots.old.items }
-    ensures count { length slots.new.items ≡ length slots.old.items }
+    requires { slot < length slots.old }
+    ensures set { result ≡ true → slots.new ≡ slice_set slots.old slot value }
+    ensures noted { plain_unset sets.new.items slots.new ≡ plain_unset sets.old.items slots.old }
     ensures stays { result ≡ false → slots.new ≡ slots.old }
 {
+    if sets.len() >= MAX_NOTED {
+        drop(value);
+        return false;
+    }
     let Ok(()) = sets.reserve(1) else {
         drop(value);
         return false;
@@ -180,7 +186,7 @@ pub(crate) fn fill_noted(call: &mut Call, value: &Value, sets: &mut Vec<Noted>) 
             let Ok(copy) = value.copy() else {
                 return false;
             };
-            if !set_slot(&mut call.slots, slot, copy, sets) {
+            if !set_slot(call.slots.as_mut_slice(), slot, copy, sets) {
                 return false;
             }
             call.wait = Wait::Runs;
