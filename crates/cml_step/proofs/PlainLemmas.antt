@@ -68,9 +68,10 @@ number_agrees fs vs ws slot z same h = ap (all_agree fs) same ∙ agree_set fs v
 pub runs_on : {fs : List ℕ} {old mid new : Call} → RunsOn fs old mid → RunsOn fs mid new → RunsOn fs old new
 runs_on a b = record { agree = b.agree; runs = b.runs; same = b.same ∙ a.same }
 
--- the steps of a call that runs
-pub runs_to : (n : ℕ) (f : PlainItem ℕ) (w : Wait) (at : ℕ) (vs us : List PlainValue) (to : ℕ) (ws : List PlainValue) → w ≡ wait.Runs → us ≡ vs → RunsTo n f at us to ws →
-    (p : Program) (self : ℕ) (below : Term) → GoesIn p self n (call_at f at vs w ∷ below) (call_at f to ws w ∷ below)
-runs_to n f w at vs us to ws run same goes = λ p self below.
-    subst (λ (x : Wait). GoesIn p self n (call_at f at vs x ∷ below) (call_at f to ws x ∷ below)) (sym run)
-    (subst (λ (xs : List PlainValue). GoesIn p self n (running f at xs ∷ below) (running f to ws ∷ below)) same (goes p self below))
+-- the steps of a call that runs, of whose slots as a slice they were made
+pub runs_to : (n : ℕ) (f : PlainItem ℕ) (w : Wait) (at : ℕ) (vs us : List PlainValue) (to : ℕ) (ws xs : List PlainValue) → w ≡ wait.Runs → us ≡ vs → xs ≡ ws → RunsTo n f at us to ws →
+    (p : Program) (self : ℕ) (below : Term) → GoesIn p self n (call_at f at vs w ∷ below) (call_at f to xs w ∷ below)
+runs_to n f w at vs us to ws xs run same back goes = λ p self below.
+    subst (λ (x : Wait). GoesIn p self n (call_at f at vs x ∷ below) (call_at f to xs x ∷ below)) (sym run)
+    (subst (λ (ys : List PlainValue). GoesIn p self n (running f at vs ∷ below) (running f to ys ∷ below)) (sym back)
+    (subst (λ (ys : List PlainValue). GoesIn p self n (running f at ys ∷ below) (running f to ws ∷ below)) same (goes p self below)))

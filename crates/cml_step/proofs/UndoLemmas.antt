@@ -1,5 +1,5 @@
 -- What is noted of a call, and undone.
-use Rattle.std.specs.Prelude.{OnOk, IfOk}
+use Rattle.std.specs.Prelude.{OnOk, IfOk, OnErr}
 use Rattle.std.proofs.Common.{Result, Ok, Err, ◌≡◌, ◌≤◌, ℕ, zero, suc, Bool, true, false, Option, Some, None, List, [], ◌∷◌, ◌++◌, length, take, set, get_or, refl, ap, sym, ◌∙◌, subst, arith}
 use Rattle.cml_value.specs.Value.{PlainValue}
 use Rattle.cml_step.specs.declared.call.Call.{Call}
@@ -10,6 +10,7 @@ use Rattle.cml_step.specs.declared.journal.Journal.{Journal}
 use Rattle.cml_step.specs.declared.ask.Ask.{Ask}
 use Rattle.cml_step.specs.declared.ask.Ask.TheVariants as asks_of
 use Rattle.cml_step.specs.declared.still.Begun.{Begun}
+use Rattle.cml_step.specs.declared.still.Begun.TheVariants as begun_of
 use Rattle.cml_step.specs.Begins.{RunsStill, BeginsSlice}
 use Rattle.cml_step.specs.Machines.{PlainHeld, PlainMachine, call, plain_held}
 use Rattle.cml_step.specs.Shared.{topped, called, HasNoCall, HasNoCallOnTop}
@@ -49,11 +50,6 @@ pub set_noted : (ns : List Noted) (xs : List PlainValue) (s : ℕ) (v had : Plai
     unset (ns ++ record { slot = s; value = had } ∷ []) (set xs s v) ≡ unset ns xs
 set_noted ns xs s v had is =
     unset_pushed ns (record { slot = s; value = had }) (set xs s v) ∙ ap (unset ns) (ap (λ w. set (set xs s v) s w) is ∙ set_back xs s v had)
-
--- the same, as it was made
-pub noted_set : (old new : List Noted) (xs ys : List PlainValue) (s : ℕ) (v had : PlainValue) → had ≡ get_or xs s had → ys ≡ set xs s v →
-    new ≡ old ++ record { slot = s; value = had } ∷ [] → unset new ys ≡ unset old xs
-noted_set old new xs ys s v had is now more = ap (λ ns. unset ns ys) more ∙ ap (unset (old ++ record { slot = s; value = had } ∷ [])) now ∙ set_noted old xs s v had is
 
 -- a call that has the slots that it had
 pub kept_had : (old new : Call) → new.slots ≡ old.slots → new.func ≡ old.func → HasSlotsOf old new
@@ -168,6 +164,24 @@ none_agrees p a none = ap (λ (b : Ask). ask_agrees (arities p) (plain_ask b)) n
 pub begins_as : (p : List (PlainItem ℕ)) {x y : Begun} (j : Journal) (a : Ask) (old new spare : List PlainHeld) → x ≡ y →
     BeginsSlice p x j a old new spare → BeginsSlice p y j a old new spare
 begins_as p j a old new spare is begins = subst (λ (x : Begun). BeginsSlice p x j a old new spare) is begins
+
+-- where there is an error this holds, since it does anyway
+pub err_anyway : {A E X : Type 0} → (r : Result A E) → X → OnErr r X
+err_anyway (Ok a) x = tt
+err_anyway (Err e) x = x
+
+-- a slice of which no step was taken, where the spare became a copy of the whole stack
+pub begun_whole : {E : Type 0} → (p : List (PlainItem ℕ)) (r : Result Begun E) (j : Journal) (a : Ask) (old new spare : List PlainHeld) → new ≡ old → a ≡ asks_of.Nothing → StackFits p old →
+    IfOk r (λ b. (b ≡ begun_of.Goes 0) × (spare ≡ new)) → IfOk r (λ b. BeginsSlice p b j a old new spare)
+begun_whole p (Ok b) j a old new spare same asks fits h =
+    subst (λ (x : Begun). BeginsSlice p x j a old new spare) (sym h.0) (record {
+      spare_is = h.1 ∙ same;
+      asks = asks;
+      fits = subst (StackFits p) (sym same) fits;
+      within = omega arith;
+      goes = λ self. ap (term_of p) (sym same);
+    })
+begun_whole p (Err e) j a old new spare same asks fits h = tt
 
 abbrev pub machine_of : ℕ → List PlainHeld → PlainMachine
 machine_of thread hs = record { thread = thread; stack = hs }

@@ -59,8 +59,35 @@ fn unset(slots: &mut Vec<Value>, sets: &mut Vec<Noted>)
 
 /// Puts the value into the slot, and notes what that had. Without memory, or where enough is noted, nothing has changed.
 #[inline(always)]
-#[tactic(auto, using(crate::proofs::UndoLemmas::noted_set))]
 pub(crate) fn set_slot(
+    slots: &mut Vec<Value>,
+    slot: usize,
+    value: Value,
+    sets: &mut Vec<Noted>,
+) -> bool
+    requires { slot < length slots.old.items }
+    ensures set { result ≡ true → slots.new.items ≡ slice_set slots.old.items slot value }
+    ensures noted { plain_unset sets.new.items slots.new.items
+        ≡ plain_unset sets.old.items slots.old.items }
+    ensures count { length slots.new.items ≡ length slots.old.items }
+    ensures stays { result ≡ false → slots.new ≡ slots.old }
+{
+    if sets.len() >= MAX_NOTED {
+        drop(value);
+        return false;
+    }
+    let Ok(()) = sets.reserve(1) else {
+        drop(value);
+        return false;
+    };
+    let had = replace(&mut slots[slot], value);
+    sets.push_reserved(Noted { slot, value: had });
+    true
+}
+
+/// The same, where the slots are seen as a slice: so they are for many sets, one after another.
+#[inline(always)]
+pub(crate) fn set_in(
     slots: &mut [Value],
     slot: usize,
     value: Value,
@@ -186,7 +213,7 @@ pub(crate) fn fill_noted(call: &mut Call, value: &Value, sets: &mut Vec<Noted>) 
             let Ok(copy) = value.copy() else {
                 return false;
             };
-            if !set_slot(call.slots.as_mut_slice(), slot, copy, sets) {
+            if !set_slot(&mut call.slots, slot, copy, sets) {
                 return false;
             }
             call.wait = Wait::Runs;

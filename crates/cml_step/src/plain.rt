@@ -1,15 +1,17 @@
 //! Steps that only set variables and choose places. What the variables had may be noted.
 
-ghost use Rattle.std.specs.Prelude.{◌≡◌, ◌<◌, ◌≤◌, ℕ, List, ◌∷◌, length, true, false, None, slice_set, IfSome};
+ghost use Rattle.std.specs.Prelude.{◌≡◌, ◌<◌, ◌≤◌, ℕ, List, ◌∷◌, length, true, false, None, Ok, slice_set, IfSome};
 ghost use Rattle.cml_check.specs.{Syntax.{name_at, expr_map, value as plain_source_value}, Names.{AreDistinct}, InOrder.{FunctionFits, arities, expr_fits}};
 ghost use Rattle.cml_check.specs.{Layout.{left}, Ops.{flat_expr, Sets, Tests, OpFollows, op_fits}};
-ghost use Rattle.cml_step.specs.{Agrees.{value_agrees, all_agree}, Terms.{Program, Term}, Plain.{StepsTo, RunsTo}};
+ghost use Rattle.cml_check.specs.{Follows.{Follows, instr_fits}, InstrViews.{plain_instr}};
+ghost use Rattle.cml_step.specs.{Agrees.{value_agrees, all_agree}, Variables.{bound, value_of}, Terms.{Program, Term}, Plain.{StepsTo, RunsTo}};
 ghost use Rattle.cml_step.specs.{Calls.{entry_for, entry_of, text_of, variables_of, statements_at, IsReady, RunsOn}, Steps.{goes_on}, Slices.{GoesIn}};
 ghost use Rattle.cml_step.specs.{Stacks.{CallFits}, Undone.{unset, HasNotes}};
+ghost use Rattle.cml_step.specs.Evaluate as meaning;
 ghost use Rattle.cml_step.specs.Steps as steps;
 
 use crate::call::{Call, Wait, assign, choose, value_in};
-use crate::journal::{Noted, fill_noted, set_slot};
+use crate::journal::{Noted, fill_noted, set_in, set_slot};
 use crate::number::{flat_int, flat_truth, number_in};
 use cml_check::{Expr, Flat, Function, Instr, Op, Prog, Source};
 use cml_value::{Value, ValueKind};
@@ -35,7 +37,7 @@ fn set_number(
         return false;
     };
     if noting {
-        return set_slot(slots, slot, value, sets);
+        return set_in(slots, slot, value, sets);
     }
     slots[slot] = value;
     true
@@ -194,6 +196,23 @@ fn flat_steps(
     done
 }
 
+// The value of an expression in a call, if it is found.
+#[inline(always)]
+fn found_in(alloc: Global, program: &Prog, f: &Function, slots: &[Value], e: &Expr) -> Option<Value>
+    requires fits { expr_fits (arities program.now) (length f.now.names) e.now ≡ true }
+    requires distinct { AreDistinct f.now.names }
+    requires agree { all_agree (arities program.now) slots.now ≡ true }
+    ensures gives { let of = value_of (bound f.now.names slots.now) in
+        IfSome result (λ v.
+        meaning.evaluate of (expr_map (name_at f.now.names) e.now) ≡ Ok v) }
+    ensures agrees { IfSome result (λ v. value_agrees (arities program.now) v ≡ true) }
+{
+    match value_in(alloc, program, f, slots, e) {
+        Ok(value) => Some(value),
+        Err(_) => None,
+    }
+}
+
 // Sets a variable to the value of an expression, goes on at `next`, and notes what the variable had. Where that is not done nothing has
 // changed.
 #[inline(never)]
@@ -225,10 +244,10 @@ fn assign_noted(
     if slot >= call.slots.len() {
         return false;
     }
-    let Ok(value) = value_in(alloc, program, f, call.slots.as_slice(), e) else {
+    let Some(value) = found_in(alloc, program, f, call.slots.as_slice(), e) else {
         return false;
     };
-    if !set_slot(call.slots.as_mut_slice(), slot, value, sets) {
+    if !set_slot(&mut call.slots, slot, value, sets) {
         return false;
     }
     call.at = next;
@@ -267,7 +286,46 @@ fn assigned(
     assign(alloc, program, f, slot, e, next, call).is_ok()
 }
 
-// Whether the instruction at the call's place only sets a variable or chooses a place, and was done. Else nothing has changed.
+// Whether the instruction only sets a variable or chooses a place, and was done. Else nothing has changed.
+#[inline(always)]
+fn instr_done(
+    alloc: Global,
+    program: &Prog,
+    f: &Function,
+    instr: &Instr,
+    call: &mut Call,
+    sets: &mut Vec<Noted>,
+    noting: bool,
+) -> bool
+    requires here { let left_at = left f.now.body in
+        Follows left_at (plain_instr instr.now) (left_at call.old.at) }
+    requires fits { let slots = length f.now.names in
+        instr_fits (arities program.now) slots (plain_instr instr.now) ≡ true }
+    requires ready { IsReady (arities program.now) f.now call.old }
+    ensures goes { result ≡ true → (self : ℕ) (below : Term) →
+        let here = statements_at f.now call.old.at in
+        let variables = variables_of f.now call.old in
+        steps.call_step (text_of program.now) self here variables below
+        ≡ goes_on (entry_for f.now call.new ∷ below) }
+    ensures stays { result ≡ false → entry_for f.now call.new ≡ entry_for f.now call.old }
+    ensures kept { RunsOn (arities program.now) call.old call.new }
+    ensures noted { noting ≡ true → HasNotes sets.old.items call.old sets.new.items call.new }
+{
+    match instr {
+        Instr::Let(slot, source, next) => match source {
+            Source::Value(e) => assigned(alloc, program, f, *slot, e, *next, call, sets, noting),
+            Source::Effect(_) => false,
+        },
+        Instr::Set(slot, e, next) => {
+            assigned(alloc, program, f, *slot, e, *next, call, sets, noting)
+        }
+        Instr::If(e, yes, no) => choose(alloc, program, f, e, *yes, *no, call).is_ok(),
+        Instr::While(e, body, next) => choose(alloc, program, f, e, *body, *next, call).is_ok(),
+        _ => false,
+    }
+}
+
+// The same of the instruction at the call's place, if there is one.
 #[inline(never)]
 fn instr_step(
     alloc: Global,
@@ -288,20 +346,9 @@ fn instr_step(
     ensures kept { RunsOn (arities program.now) call.old call.new }
     ensures noted { noting ≡ true → HasNotes sets.old.items call.old sets.new.items call.new }
 {
-    let Some(instr) = f.instr(call.at) else {
-        return false;
-    };
-    match instr {
-        Instr::Let(slot, source, next) => match source {
-            Source::Value(e) => assigned(alloc, program, f, *slot, e, *next, call, sets, noting),
-            Source::Effect(_) => false,
-        },
-        Instr::Set(slot, e, next) => {
-            assigned(alloc, program, f, *slot, e, *next, call, sets, noting)
-        }
-        Instr::If(e, yes, no) => choose(alloc, program, f, e, *yes, *no, call).is_ok(),
-        Instr::While(e, body, next) => choose(alloc, program, f, e, *body, *next, call).is_ok(),
-        _ => false,
+    match f.instr(call.at) {
+        Some(instr) => instr_done(alloc, program, f, instr, call, sets, noting),
+        None => false,
     }
 }
 

@@ -299,6 +299,14 @@ fn copy_noted(
     }
 }
 
+// Makes the spare a copy of the stack, of which no step was taken.
+fn copy_whole(alloc: Global, stack: &Stack, spare: &mut Stack) -> Result<Begun, AllocError>
+    ensures { IfOk result (λ b. (b ≡ Begun.Goes 0) × (spare.new ≡ stack.now)) }
+{
+    spare.copy_from(alloc, stack)?;
+    Ok(Begun::Goes(0))
+}
+
 /// Takes the first steps of a slice. Where they come to an ask in the call on top, the journal has what they changed; else the spare becomes
 /// a copy of the stack as it was.
 ///
@@ -318,19 +326,18 @@ pub(crate) fn begin_slice(
         BeginsSlice program.now b journal.new asked.new stack.old stack.new spare.new) }
     ensures err { OnErr result ((stack.new ≡ stack.old) × (asked.new ≡ Ask.Nothing)) }
 {
-    let Some(begun) = still(alloc, program, stack, journal, MAX_STEPS, asked) else {
-        spare.copy_from(alloc, stack)?;
-        return Ok(Begun::Goes(0));
-    };
-    match begun {
-        Begun::Asks(steps) => Ok(Begun::Asks(steps)),
-        Begun::Goes(done) => match copy_noted(alloc, stack, spare, journal) {
-            Ok(()) => Ok(Begun::Goes(done)),
-            Err(error) => {
-                undo_noted(stack, journal);
-                Err(error)
-            }
+    match still(alloc, program, stack, journal, MAX_STEPS, asked) {
+        Some(begun) => match begun {
+            Begun::Asks(steps) => Ok(Begun::Asks(steps)),
+            Begun::Goes(done) => match copy_noted(alloc, stack, spare, journal) {
+                Ok(()) => Ok(Begun::Goes(done)),
+                Err(error) => {
+                    undo_noted(stack, journal);
+                    Err(error)
+                }
+            },
         },
+        None => copy_whole(alloc, stack, spare),
     }
 }
 

@@ -55,14 +55,14 @@ returns-then-steps-eq0-clause-meant c =
     (sym (goes_none (text_of p) th c.in-Goes.steps (term_of p c.args.stack.now) (term_of p b.stack) c.if-steps-eq0.true (h.goes th))) c.one_step.ensures.meant
 
 pub one_step-in-None-requires-clause-fits : goal.one_step-in-None-requires-clause-fits
-one_step-in-None-requires-clause-fits c = subst (StackFits c.args.program.now) (sym c.in-None.ensures.stays.0) c.requires.fits
+one_step-in-None-requires-clause-fits c = subst (StackFits c.args.program.now) (sym (c.still.ensures.stays c.in-None.is).0) c.requires.fits
 
 pub one_step-in-None-requires-clause-nothing : goal.one_step-in-None-requires-clause-nothing
-one_step-in-None-requires-clause-nothing c = c.in-None.ensures.stays.1 ∙ c.requires.nothing
+one_step-in-None-requires-clause-nothing c = (c.still.ensures.stays c.in-None.is).1 ∙ c.requires.nothing
 
 pub returns-in-None-clause-meant : goal.returns-in-None-clause-meant
 returns-in-None-clause-meant c =
     let p = c.args.program.now in
     let d = c.one_step-in-None.new in
     subst (λ (hs : List PlainHeld). IfOk c.one_step-in-None.result (λ n. Advances (text_of p) c.args.thread.0 c.args.most n d.asked (term_of p hs) (term_of p d.stack)))
-    c.in-None.ensures.stays.0 c.one_step-in-None.ensures.meant
+    (c.still.ensures.stays c.in-None.is).0 c.one_step-in-None.ensures.meant

@@ -56,3 +56,6 @@ loop-done-preserved c =
           ∙ slice_moves (text_of p) c.args.thread.0 c.args.most (c.loop-done.done + n) m (term_of p c.quick_steps.new.stack) (term_of p c.go_on.new.stack)
           (c.in_ok-more.ensures.meant.goes none);
     }
+
+pub loop-done-smaller : goal.loop-done-smaller
+loop-done-smaller c = omega (arith, c.in_ok-more.ensures.meant.within.0, c.loop-done-test.true)

@@ -1,20 +1,21 @@
-use Rattle.std.proofs.Common.{◌≡◌, [], ap, sym, ◌∙◌, subst, refl, arith}
+use Rattle.std.proofs.Common.{sym, ◌∙◌, subst}
 use Rattle.cml_step.specs.declared.journal.Journal.{Journal}
-use Rattle.cml_step.specs.Stacks.{StackFits, term_of}
 use Rattle.cml_step.specs.Undone.{IsNotedStack}
-use Rattle.cml_step.proofs.UndoLemmas.{runs_as}
+use Rattle.cml_step.proofs.UndoLemmas.{runs_as, begun_whole, err_anyway}
 use Rattle.cml_step.proofs.still.begin_slice.Goals as goal
 
 pub returns-in-None-clause-begins : goal.returns-in-None-clause-begins
 returns-in-None-clause-begins c =
-    let stays = c.in-None.ensures.stays in
-    record {
-      spare_is = c.in_ok-copy_from.ensures ∙ stays.0;
-      asks = stays.1 ∙ c.requires.nothing;
-      fits = subst (StackFits c.args.program.now) (sym stays.0) c.requires.fits;
-      within = omega arith;
-      goes = λ self. ap (term_of c.args.program.now) (sym stays.0);
-    }
+    let p = c.args.program.now in
+    let b = c.still.new in
+    let stays = c.still.ensures.stays c.in-None.is in
+    begun_whole p c.copy_whole.result b.journal b.asked c.args.stack.now b.stack c.copy_whole.new.spare
+    stays.0 (stays.1 ∙ c.requires.nothing) c.requires.fits c.copy_whole.ensures
+
+pub returns-in-None-clause-err : goal.returns-in-None-clause-err
+returns-in-None-clause-err c =
+    let stays = c.still.ensures.stays c.in-None.is in
+    err_anyway c.copy_whole.result (stays.0, stays.1 ∙ c.requires.nothing)
 
 pub returns-in-Asks-clause-begins : goal.returns-in-Asks-clause-begins
 returns-in-Asks-clause-begins c =
