@@ -42,13 +42,13 @@ class Judge:
 
     def judged(self, scripts: list[Script], allowed: list[frozenset[Outcome]]) -> list[Judgement | Failed]:
         """Those that may never end by a known way are run each by itself."""
-        may_hang = [bool(Explained(self.ways, self.rules, script).hangs()) for script in scripts]
+        may_hang = [bool(Explained(self.ways, script).hangs()) for script in scripts]
         together = iter(self.seen([script for script, hangs in zip(scripts, may_hang) if not hangs]))
         return [self.judgement(script, rules, self.seen([script])[0] if hangs else next(together))
                 for script, rules, hangs in zip(scripts, allowed, may_hang)]
 
     def judgement(self, script: Script, allowed: frozenset[Outcome], seen: Counter[Outcome] | Failed) -> Judgement | Failed:
-        explained = Explained(self.ways, self.rules, script)
+        explained = Explained(self.ways, script)
         if isinstance(seen, Failed):
             seen.known = explained.hangs()
             return seen

@@ -171,21 +171,6 @@ def with_nack(tree: Tree, nack: tuple) -> Tree:
 # value of an effect; ("forces", TREE), an event whose guards are called; ("wraps", CALLS, VALUE).
 
 
-def delivered(value: Value, stack: Stack) -> Stack:
-    """The stack once a value has come to what waits on top of it."""
-    if not stack:
-        return ()
-    below = stack[:-1]
-    match stack[-1]:
-        case ("awaits", function, place, variables, name):
-            return below + (("call", function, place, changed(variables, name, value)),)
-        case ("forces", tree):
-            return below + (("forces", replaced(tree, tree_of(value))),)
-        case ("wraps", calls, _):
-            return below + (("wraps", calls, value),)
-    raise AssertionError(stack[-1])
-
-
 def changed(variables: frozenset, name: str | None, value: Value) -> frozenset:
     return variables if name is None else frozenset({**dict(variables), name: value}.items())
 
@@ -233,6 +218,20 @@ class Machine:
             raise Refused(f"there is no function {name} of {len(values)} values")
         return ("call", name, 0, frozenset(zip(parameters, values)))
 
+    def delivered(self, value: Value, stack: Stack) -> Stack:
+        """The stack once a value has come to what waits on top of it."""
+        if not stack:
+            return ()
+        below = stack[:-1]
+        match stack[-1]:
+            case ("awaits", function, place, variables, name):
+                return below + (("call", function, place, changed(variables, name, value)),)
+            case ("forces", tree):
+                return below + (("forces", replaced(tree, tree_of(value))),)
+            case ("wraps", calls, _):
+                return below + (("wraps", calls, value),)
+        raise AssertionError(stack[-1])
+
     def asks(self, number: int, stack: Stack) -> tuple[Ask, Stack]:
         """What the thread of this number asks for next, and the stack that waits for the answer."""
         if (number, stack) not in self.known:
@@ -257,7 +256,7 @@ class Machine:
             case ("forces", tree):
                 return self.forced(tree, stack)
             case ("wraps", (), value):
-                return None, delivered(value, below)
+                return None, self.delivered(value, below)
             case ("wraps", ((name, captured), *others), value):
                 return None, below + (("wraps", tuple(others), value), self.begun((name, captured + (value,))))
             case ("call", name, place, variables):
@@ -283,7 +282,7 @@ class Machine:
                 holds = wanted(evaluate(condition, values), "truth")[1]
                 return None, below + (("call", name, place + 1 if holds else other, variables),)
             case ("return", form):
-                return None, delivered(evaluate(form, values), below)
+                return None, self.delivered(evaluate(form, values), below)
             case ("do", variable, effect):
                 return self.effect(number, effect, values, below + (("awaits", name, place + 1, variables, variable),))
         raise AssertionError(name)
@@ -295,7 +294,7 @@ class Machine:
             case ("spawn", str(name), *given):
                 return ("spawn", (name, tuple([evaluate(it, variables) for it in given]))), stack
             case ("self",):
-                return None, delivered(("thread", number), stack)
+                return None, self.delivered(("thread", number), stack)
             case ("sync", event):
                 return None, stack + (("forces", tree_of(evaluate(event, variables))),)
             case ("exit",):

@@ -1,19 +1,19 @@
 #!/usr/bin/env python3
-"""All outcomes of a small script.
+"""All outcomes of a small script: a second opinion beside `cml verify FILE --outcomes`.
 
     peers/kit/outcomes.py FILE [--states N]
 
 Every interleaving of the script's threads is gone through, by the rules of Concurrent ML and nothing else; states that were met are not gone
-through again. It shares no code with the program of this repository, so it is a second opinion, and it tells all outcomes where the
-program does not. A line is written for each outcome, as JSON: the lines printed, in order, and of each thread how it is left. Exit status:
-0; 4 where there are more than N states (200,000 without the option), and nothing is written; 2 where the file is no script.
+through again. It shares no code with the program of this repository. A line is written for each outcome, as JSON: the lines printed, in
+order, and of each thread how it is left. Exit status: 0; 4 where there are more than N states (200,000 without the option), and nothing is
+written; 2 where the file is no script.
 
 What is not looked at: limits (of stacks, sizes and numbers of objects). A script that prints an object, other than a thread, is refused.
 """
 import argparse
 import json
 import sys
-from collections.abc import Iterator, Mapping
+from collections.abc import Iterable, Iterator, Mapping
 from pathlib import Path
 from typing import Any, NamedTuple
 
@@ -21,7 +21,7 @@ if __name__ == "__main__":
     sys.dont_write_bytecode = True
     sys.path.insert(0, str(Path(__file__).resolve().parent.parent))
 
-from kit.machine import UNIT, Ask, Machine, Refused, Stack, Tree, Value, delivered, shown, with_nack  # noqa: E402
+from kit.machine import UNIT, Ask, Machine, Refused, Stack, Tree, Value, shown, with_nack  # noqa: E402
 from kit.script import Unreadable, read  # noqa: E402
 
 QUIET = {"chan", "swapchan", "ivar", "mvar", "mailbox", "mchan", "yield", "nack", "sync"}  # asks that no other thread can notice
@@ -52,6 +52,7 @@ class Offer(NamedTuple):
     base: Tree
     wraps: tuple
     inside: tuple
+    place: int | None = None  # where in its stack the event is that the leaf is of; None: it is what the thread waits on
 
 
 class Party(NamedTuple):
@@ -62,6 +63,10 @@ class Party(NamedTuple):
 
 def with_entry(entries: frozenset, key: Any, content: Any) -> frozenset:
     return frozenset({**dict(entries), key: content}.items())
+
+
+def with_nacks(state: State, nacks: Iterable[tuple], content: str) -> State:
+    return state._replace(nacks=frozenset({**dict(state.nacks), **dict.fromkeys(nacks, content)}.items()))
 
 
 def offers(thread: int, tree: Tree, wraps: tuple = (), inside: tuple = ()) -> Iterator[Offer]:
@@ -109,11 +114,12 @@ def with_thread(state: State, number: int, thread: Thread) -> State:
 
 
 class Search:
-    """The states of a script that some schedule leads to."""
+    """The states of a script that some schedule leads to. In changed.py some of its rules are changed."""
+    machine_of = Machine
 
     def __init__(self, text: str, most: int):
         try:
-            self.machine = Machine(read(text))
+            self.machine = self.machine_of(read(text))
         except (Unreadable, TypeError, ValueError, KeyError) as fault:
             raise Refused(str(fault)) from fault
         self.most = most
@@ -139,16 +145,16 @@ class Search:
         nobody else can notice, that alone, since it is the same whenever it is made."""
         choice = own_choice(state)
         if choice:
-            yield from (gone_on(state, [Party(offer, offer.base[2])], {}) for offer in choice)
+            yield from (self.gone_on(state, [Party(offer, offer.base[2])], {}) for offer in choice)
             return
         still = True
         for number, thread in enumerate(state.threads):
             if thread.state == "runs":
                 still = False
-                yield self.turned(state, number)
-        for parties, objects in steps(state):
+                yield from self.turns(state, number)
+        for parties, objects in steps(state, self.offered(state)):
             still = False
-            yield gone_on(state, parties, objects)
+            yield from self.commits(state, parties, objects)
         alarms = [offer.base[2] for offer in waiting(state) if offer.base[1] == "at"] if still else []
         if alarms:
             yield state._replace(tick=min(alarms))
@@ -164,30 +170,65 @@ class Search:
                 number += 1
         return state
 
+    def turns(self, state: State, number: int) -> Iterator[State]:
+        """Each state that a turn of this thread may lead to."""
+        yield self.turned(state, number)
+
     def turned(self, state: State, number: int) -> State:
         """The state after what a thread asks for."""
         ask, stack = self.machine.asks(number, state.threads[number].stack)
         made = state.threads[number].made
         match ask:
             case ("end",):
-                return with_thread(state, number, Thread("ended"))
+                return self.left(state, number, "ended")
             case ("fault", name):
-                return with_thread(state, number, Thread(f"fault {name}"))
+                return self.left(state, number, f"fault {name}")
             case ("sync", tree):
-                nacks = frozenset({**dict(state.nacks), **dict.fromkeys(branches(tree), "live")}.items())
-                return with_thread(state._replace(nacks=nacks), number, Thread("waits", stack, entered(tree, state.tick), made))
+                return with_thread(with_nacks(state, branches(tree), "live"), number, Thread("waits", stack, entered(tree, state.tick), made))
             case ("nack",):
                 nack = (number, made)
                 stack = stack[:-1] + (("forces", with_nack(stack[-1][1], nack)),)
-                return with_thread(state._replace(nacks=with_entry(state.nacks, nack, "fresh")), number, Thread("runs", stack, None, made + 1))
+                return with_thread(with_nacks(state, (nack,), "fresh"), number, Thread("runs", stack, None, made + 1))
             case ("iput" | "mput", variable, _) if dict(state.objects)[variable]:
-                return with_thread(state, number, Thread("fault put"))
+                return self.left(state, number, "fault put")
         if ask[0] == "spawn":
             state = state._replace(threads=state.threads + (Thread("runs", (self.machine.begun(ask[1]),)),))
             answer: Value = ("thread", len(state.threads) - 1)
         else:
-            answer, state = answered(ask, (number, made), state)
-        return with_thread(state, number, Thread("runs", delivered(answer, stack), None, made + (ask[0] in MAKES)))
+            answer, state = self.answered(ask, (number, made), state)
+        return with_thread(state, number, Thread("runs", self.machine.delivered(answer, stack), None, made + (ask[0] in MAKES)))
+
+    def left(self, state: State, number: int, end: str) -> State:
+        """The state once this thread has ended so."""
+        return with_thread(state, number, Thread(end))
+
+    def answered(self, ask: Ask, name: tuple, state: State) -> tuple[Value, State]:
+        return answered(ask, name, state)
+
+    def offered(self, state: State) -> list[Offer]:
+        return waiting(state)
+
+    def commits(self, state: State, parties: list[Party], objects: Mapping[Value, tuple]) -> Iterator[State]:
+        """Each state that it may lead to if these threads go on."""
+        yield self.gone_on(state, parties, objects)
+
+    def gone_on(self, state: State, parties: list[Party], objects: Mapping[Value, tuple]) -> State:
+        """The state once these threads go on: of the nacks of what each waited on, those fire in whose branches its offer does not lie."""
+        nacks = dict(state.nacks)
+        for offer, value in parties:
+            thread = state.threads[offer.thread]
+            nacks.update(self.decided(thread, offer))
+            state = with_thread(state, offer.thread, self.resumed(thread, offer, value))
+        return state._replace(objects=frozenset({**dict(state.objects), **objects}.items()), nacks=frozenset(nacks.items()))
+
+    def decided(self, thread: Thread, offer: Offer) -> dict[tuple, str]:
+        """What becomes of the nacks of the event that this offer is of."""
+        return {nack: "held" if nack in offer.inside else "fired" for nack in branches(event_of(thread, offer))}
+
+    def resumed(self, thread: Thread, offer: Offer, value: Value) -> Thread:
+        """The thread once it goes on by this offer, with this value."""
+        stack = thread.stack + (("wraps", offer.wraps, value),) if offer.wraps else self.machine.delivered(value, thread.stack)
+        return Thread("runs", stack, None, thread.made)
 
 
 MAKES = {"chan", "swapchan", "ivar", "mvar", "mailbox", "mchan", "port", "copy"}
@@ -222,6 +263,11 @@ def answered(ask: Ask, name: tuple, state: State) -> tuple[Value, State]:
 # Synchronizations
 
 
+def event_of(thread: Thread, offer: Offer) -> Tree:
+    """The event that this offer of the thread is of."""
+    return thread.waits_on if offer.place is None else thread.stack[offer.place][1]
+
+
 def waiting(state: State) -> list[Offer]:
     return [offer for number, thread in enumerate(state.threads) if thread.state == "waits" for offer in offers(number, thread.waits_on)]
 
@@ -236,9 +282,9 @@ def own_choice(state: State) -> list[Offer]:
     return []
 
 
-def steps(state: State) -> Iterator[tuple[list[Party], Mapping[Value, tuple]]]:
+def steps(state: State, all_offers: list[Offer]) -> Iterator[tuple[list[Party], Mapping[Value, tuple]]]:
     """Each way in which one thread goes on alone, or two together, and what the objects hold then."""
-    held, nacks, all_offers = dict(state.objects), dict(state.nacks), waiting(state)
+    held, nacks = dict(state.objects), dict(state.nacks)
     for offer in all_offers:
         for value, objects in alone(offer.base, state, held, nacks):
             yield [Party(offer, value)], objects
@@ -274,17 +320,6 @@ def together(offer: Offer, other: Offer) -> Iterator[tuple[Value, Value]]:
             yield UNIT, value
         case (_, "swap", channel, value), (_, "swap", same, back) if channel == same and offer.thread < other.thread:
             yield back, value
-
-
-def gone_on(state: State, parties: list[Party], objects: Mapping[Value, tuple]) -> State:
-    """The state once these threads go on: of the nacks of what each waited on, those fire in whose branches its offer does not lie."""
-    nacks = dict(state.nacks)
-    for offer, value in parties:
-        thread = state.threads[offer.thread]
-        nacks.update({nack: "held" if nack in offer.inside else "fired" for nack in branches(thread.waits_on)})
-        stack = thread.stack + (("wraps", offer.wraps, value),) if offer.wraps else delivered(value, thread.stack)
-        state = with_thread(state, offer.thread, Thread("runs", stack, None, thread.made))
-    return state._replace(objects=frozenset({**dict(state.objects), **objects}.items()), nacks=frozenset(nacks.items()))
 
 
 def outcomes(text: str, states: int = 200_000) -> frozenset[tuple[tuple[str, ...], tuple[str, ...]]]:

@@ -74,7 +74,7 @@ class Totals:
         lines += [f"not in these scripts, since {peer.name} can't say it: {', '.join(sorted(peer.cannot))}"]
         lines += counted("passed over, since the outcomes are not known", self.unknown)
         scripts = {way.name: way.script for way in ways}
-        lines += [f"not allowed, by a known way: {way}, in {many} scripts ({scripts.get(way, 'both are above')})"
+        lines += [f"not allowed, by a known way: {way}, in {many} scripts ({scripts.get(way, 'named above')})"
                   for way, many in self.ways.most_common() if way != UNDECIDED]
         lines += [f"not allowed, and not decided whether by a known way: {self.ways[UNDECIDED]} scripts"] if self.ways[UNDECIDED] else []
         lines += [f"not run to the end: {self.failed} scripts"] if self.failed else []

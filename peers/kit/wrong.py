@@ -1,11 +1,13 @@
 """Wrong rules: is each met by the scripts, that is, does a peer show an outcome that the wrong rule does not allow?
 
-A wrong rule is a change of the script whose outcomes are taken for the allowed ones, or a change of these outcomes.
+A wrong rule is a change of the script whose outcomes are taken for the allowed ones, a change of these outcomes, or a changed rule of changed.py.
 """
 from collections.abc import Callable
 from dataclasses import dataclass, field
 
+from kit import changed
 from kit.judge import Judgement
+from kit.known import Explained
 from kit.outcome import Outcome
 from kit.rewrite import called_by, everywhere, named
 from kit.rules import Rules, Unknown
@@ -96,6 +98,7 @@ class Wrong:
     what: str
     script: Callable[[Script], Script] | None = None
     outcome: Callable[[Outcome], Outcome] | None = None
+    rule: str | None = None
 
 
 RULES = {
@@ -119,6 +122,7 @@ RULES = {
     "put-passes": Wrong("a put into a full variable is none", outcome=fault_as("ended")),
     "mail-waits": Wrong("a mail waits for its receiver", lambda script: heads("mail", lambda b, v: ("sync", ("send", b, v)))(
         words(mailbox="chan", mailrecv="recv")(script))),
+    "mail-last-first": Wrong("a mailbox is last in first out", rule=changed.LAST),
     "join-at-once": Wrong("a thread counts as ended from its beginning", heads("join", lambda _: ALWAYS_UNIT)),
     "join-never": Wrong("the end of a thread is not seen", heads("join", lambda _: "never")),
     "copy-is-the-same": Wrong("a copy shares the messages of its port", heads("copy", lambda port: port)),
@@ -149,6 +153,8 @@ class Met:
         """What the wrong rule allows; None if it says the same as the right one, or if that is not known."""
         if wrong.outcome:
             allowed = frozenset(map(wrong.outcome, judged.allowed))
+        elif wrong.rule:
+            allowed = Explained([], judged.script).allowed_by(frozenset([wrong.rule])) if changed.RULES[wrong.rule](judged.script, ()) else None
         else:
             script = wrong.script(judged.script)
             if script == judged.script:
@@ -157,7 +163,7 @@ class Met:
                 allowed = self.rules.outcomes(script)
             except Unknown:
                 return None
-        return None if allowed == judged.allowed else allowed
+        return None if allowed in (None, judged.allowed) else allowed
 
     def told(self) -> str:
         return "".join(f"wrong rule {name} ({RULES[name].what}): met by {self.met.get(name, 0)} of the {self.changes.get(name, 0)} scripts it changes\n"

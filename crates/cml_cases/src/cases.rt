@@ -6,8 +6,7 @@
 //! - `again: WORDS`: after each of them it is run on these too, over the same store, and everything must come out as before;
 //! - `status: N`: its status, if not 0;
 //! - `room: N`: so many files can be saved;
-//! - `saves: NAME`: something is saved under this name;
-//! - `disk`: the files are those that lie where this program runs.
+//! - `saves: NAME`: something is saved under this name.
 //!
 //! The texts of a case are `file NAME`, `input`, `output`, `errors`, `session`, which is input and output in one, and `saved NAME`: what lies under
 //! the name afterwards. Where one is not there it is empty, but the input is the line `spawn`. What else lies in the
@@ -44,8 +43,6 @@ pub struct Case<'a> {
     pub files: Vec<File<'a>>,
     /// How many files can be saved.
     pub room: Option<usize>,
-    /// Whether the store is the disk.
-    pub is_on_disk: bool,
     /// The input.
     pub input: &'a [u8],
     /// What must be written to the output.
@@ -75,7 +72,6 @@ impl<'a> Case<'a> {
             again: None,
             files: Vec::new(alloc),
             room: None,
-            is_on_disk: false,
             input: b"spawn\n",
             output: &[],
             errors: &[],
@@ -94,10 +90,6 @@ impl<'a> Case<'a> {
     // What one of its own lines says. Returns whether it can be read.
     fn take_line(&mut self, line: &'a str) -> Result<bool, AllocError> {
         if line.starts_with(';') {
-            return Ok(true);
-        }
-        if line == "disk" {
-            self.is_on_disk = true;
             return Ok(true);
         }
         match line.split_once(": ") {

@@ -30,7 +30,7 @@ fn text_of<R: AllocGlobal + Files>(rt: &R, name: &str) -> Option<String> {
 // Runs the cases of these blocks.
 fn run_blocks<R>(rt: &R, name: &str, blocks: &[Block], tally: &mut Tally) -> io::Result<()>
 where
-    R: AllocGlobal + Print + Files + Threads + Wait + Sync,
+    R: AllocGlobal + Print + Threads + Wait + Sync,
 {
     let read = read_cases(rt.alloc(), blocks)?;
     if let Some(line) = read.fault {

@@ -5,10 +5,8 @@ use crate::tally::Tally;
 use cml_host::{Open, Store, run_command_counted};
 use cml_memory::MemoryStore;
 use cml_stream::Counting;
-use cml_system::Disk;
 use std::alloc::{AllocError, Global};
 use std::io;
-use std::rt::Files;
 use std::sync::Wait;
 use std::thread::Threads;
 
@@ -37,15 +35,14 @@ fn split(alloc: Global, line: &str) -> Result<Vec<String>, AllocError> {
 }
 
 // What the program leaves that is run on these words and this input, over the store.
-fn left_by<R, S>(
+fn left_by<R>(
     rt: &R,
     words: Words<'_>,
     mut input: &[u8],
-    store: &mut S,
+    store: &mut MemoryStore,
 ) -> Result<Left, AllocError>
 where
     R: AllocGlobal + Threads + Wait + Sync,
-    S: Store,
 {
     let alloc = rt.alloc();
     let line = split(alloc, words.line)?;
@@ -139,16 +136,15 @@ where
 }
 
 // The program is run on these words, and once more on what is to be run again.
-fn run_over<R, S>(
+fn run_over<R>(
     rt: &R,
     tally: &mut Tally,
     case: &Case<'_>,
     words: Words<'_>,
-    store: &mut S,
+    store: &mut MemoryStore,
 ) -> io::Result<()>
 where
     R: AllocGlobal + Print + Threads + Wait + Sync,
-    S: Store,
 {
     let left = left_by(rt, words, case.input, store)?;
     compare_left(rt, tally, case, words.line, &left)?;
@@ -249,8 +245,8 @@ where
     Ok(())
 }
 
-// The program is run on these words over a store in memory.
-fn run_in_memory<R>(rt: &R, tally: &mut Tally, case: &Case<'_>, words: Words<'_>) -> io::Result<()>
+// The program is run on these words over a store of its own.
+fn run_words<R>(rt: &R, tally: &mut Tally, case: &Case<'_>, words: Words<'_>) -> io::Result<()>
 where
     R: AllocGlobal + Print + Threads + Wait + Sync,
 {
@@ -269,15 +265,11 @@ where
 /// Runs the program as the case says, and tells what differs.
 pub fn run_case<R>(rt: &R, case: &Case<'_>, tally: &mut Tally) -> io::Result<()>
 where
-    R: AllocGlobal + Print + Files + Threads + Wait + Sync,
+    R: AllocGlobal + Print + Threads + Wait + Sync,
 {
     tally.comes();
     for words in case.runs.as_slice() {
-        if case.is_on_disk {
-            run_over(rt, tally, case, *words, &mut Disk::new(rt))?;
-        } else {
-            run_in_memory(rt, tally, case, *words)?;
-        }
+        run_words(rt, tally, case, *words)?;
     }
     Ok(())
 }

@@ -13,9 +13,9 @@ use std::alloc::{AllocError, Global};
 use std::sync::atomic::{AtomicUsize, Ordering};
 use std::thread::{self, Threads};
 
-/// How many runs a round has for each thread at least, where so many are left. The first rounds are short, so that not much is made for nothing
-/// where a run at which to stop comes early.
-const LEAST: u64 = 4;
+/// How many runs a round has for each thread at least, where so many are left: one in each part. The first rounds are short, so that not much is
+/// made for nothing where a run at which to stop comes early.
+const LEAST: u64 = 16;
 
 /// How many it has at most, where no more classes are known than that.
 const MOST: u64 = 4096;
@@ -457,7 +457,7 @@ impl Explored {
     /// the last: the last of them is one at which to stop, or all were made that were asked for. What is kept is what [`go`](Explored::go) would
     /// have kept, by one run after another: where a thread comes to a run at which to stop, what the threads behind it made is let go.
     ///
-    /// For each thread there are 4 runs, or more where more were made before or more classes are known, or fewer where fewer are left. They are
+    /// For each thread there are 16 runs, or more where more were made before or more classes are known, or fewer where fewer are left. They are
     /// cut in parts, and each thread takes the next that no other has taken, so a slow one makes fewer; where a part has a run at which to stop, none
     /// takes a further one. Where no thread can be made, the others make its runs.
     ///

@@ -1,12 +1,11 @@
-//! Books over the plain table, by each call of the table; and what a book tells of what waits in its queues.
+//! A book over the plain table, by each call of the table.
 
 use crate::making::{MEMORY, int, leaf};
 use crate::scans::EXCHANGE;
-use cml_book::{Book, Fault, Refusal};
-use cml_index::OfferIndex;
+use cml_book::Book;
 use cml_kept::KeptRows;
-use cml_scan::{Light, Meet, Place, Table};
-use cml_value::{BaseKind, ChanId, Group, Tid, Value};
+use cml_scan::{Meet, Place, Table};
+use cml_value::{BaseKind, ChanId, Group, Tid};
 use std::process::Abort;
 
 const GIVER: Place = Place {
@@ -63,48 +62,4 @@ fn hands_over<T: Table + Drop>(rt: &(impl Abort + AllocGlobal), new: Book<T>) {
 #[test]
 fn a_value_is_handed_over(rt: HostRuntime) {
     hands_over(&rt, Book::new(rt.alloc(), KeptRows::new(rt.alloc())));
-    hands_over(&rt, Book::new(rt.alloc(), OfferIndex::new(rt.alloc())));
-}
-
-#[test]
-fn a_refusal_is_told(rt: HostRuntime) {
-    let mut book = Book::new(rt.alloc(), KeptRows::new(rt.alloc()));
-    two_threads(&rt, &mut book);
-    let receive = leaf(BaseKind::Recv(ChanId(0)));
-    let refused = book.sync(rt.alloc(), Tid(0), &receive);
-    assert!(rt; refused == Err(Fault::Refused(Refusal::Object)));
-    drop(receive);
-    assert!(rt; book.is_running(Tid(0)));
-    drop(book);
-}
-
-fn is_seven(rt: &impl Abort, value: Option<&Value>) {
-    let seven = int(7);
-    assert!(rt; value.expect(rt, "a value").same(&seven));
-    drop(seven);
-}
-
-#[test]
-fn a_book_tells_what_waits_in_a_mailbox(rt: HostRuntime) {
-    let mut book = Book::new(rt.alloc(), OfferIndex::new(rt.alloc()));
-    let mailbox = book.make_mailbox(rt.alloc()).expect(&rt, MEMORY);
-    assert!(rt; book.mail(rt.alloc(), mailbox, int(7)).is_ok());
-    assert!(rt; book.mailbox_len(mailbox) == Some(1));
-    is_seven(&rt, book.mailbox_item(mailbox, 0));
-    is_seven(&rt, book.value(Light::Mbox(mailbox)));
-    assert!(rt; book.mailbox_item(mailbox, 1).is_none());
-    drop(book);
-}
-
-#[test]
-fn a_book_tells_what_waits_at_a_port(rt: HostRuntime) {
-    let mut book = Book::new(rt.alloc(), OfferIndex::new(rt.alloc()));
-    let channel = book.make_mchan(rt.alloc()).expect(&rt, MEMORY);
-    let port = book.make_port(rt.alloc(), channel).expect(&rt, MEMORY);
-    assert!(rt; book.ports(channel).expect(&rt, "a channel").len() == 1);
-    assert!(rt; book.multicast(rt.alloc(), channel, int(7)).is_ok());
-    assert!(rt; book.port_len(port) == Some(1));
-    is_seven(&rt, book.port_item(port, 0));
-    assert!(rt; book.port_item(port, 1).is_none());
-    drop(book);
 }

@@ -1,10 +1,7 @@
-//! The hub by itself: slices that are handed out, given back or kept, and runs by a list of picks.
-
-ghost use Rattle.cml_hub.specs.Kept.{IsWatch};
+//! The hub by itself: slices that are handed out, given back or kept, and a run by a list of picks.
 
 use crate::making::{ADDITION, MEMORY, program_of};
 use cml_hub::{End, First, GiveFault, Hub, Next, Script};
-use cml_schedule::Report;
 use cml_step::{Ran, slice};
 use cml_value::Tid;
 use std::process::Abort;
@@ -20,11 +17,9 @@ const WANTED_TWICE: &str = "(fn give (c) (sync (send c 1))) \
      (fn main () (let c (chan)) (spawn get c 10) (spawn get c 20) (spawn give c))";
 
 // The hub of the script at its beginning.
-fn begun(rt: &(impl Abort + AllocGlobal), script: &str, watch: Option<u64>) -> Hub
-    requires { IsWatch watch }
-{
+fn begun(rt: &(impl Abort + AllocGlobal), script: &str) -> Hub {
     let program = program_of(rt, script);
-    let hub = Hub::begin(rt.alloc(), program, 1_000_000, watch);
+    let hub = Hub::begin(rt.alloc(), program, 1_000_000, None);
     hub.ok().expect(rt, MEMORY)
 }
 
@@ -62,8 +57,8 @@ fn prints(rt: &(impl Abort + AllocGlobal), hub: &mut Hub, output: &str) {
 
 #[test]
 fn a_slice_of_another_program_is_not_taken(rt: HostRuntime) {
-    let mut hub = begun(&rt, ADDITION, None);
-    let mut other = begun(&rt, OTHER_ADDITION, None);
+    let mut hub = begun(&rt, ADDITION);
+    let mut other = begun(&rt, OTHER_ADDITION);
     let own = next_slice(&rt, &mut hub);
     let foreign = next_slice(&rt, &mut other);
     let foreign = is_stranger(&rt, &mut hub, foreign);
@@ -77,8 +72,8 @@ fn a_slice_of_another_program_is_not_taken(rt: HostRuntime) {
 // Of two hubs of one program each takes the other's slices.
 #[test]
 fn a_slice_is_taken_once(rt: HostRuntime) {
-    let mut hub = begun(&rt, ADDITION, None);
-    let mut same = begun(&rt, ADDITION, None);
+    let mut hub = begun(&rt, ADDITION);
+    let mut same = begun(&rt, ADDITION);
     let first = next_slice(&rt, &mut hub);
     let second = next_slice(&rt, &mut same);
     gives(&rt, &mut hub, second);
@@ -92,7 +87,7 @@ fn a_slice_is_taken_once(rt: HostRuntime) {
 // Threads 0 and 1 are handed out, and never come back.
 #[test]
 fn slices_that_stay_out_are_run_again(rt: HostRuntime) {
-    let mut hub = begun(&rt, ADDITION, None);
+    let mut hub = begun(&rt, ADDITION);
     for _ in 0..2 {
         assert!(rt; hub.has_ready() && !hub.has_out());
         let ran = next_slice(&rt, &mut hub);
@@ -115,28 +110,11 @@ fn slices_that_stay_out_are_run_again(rt: HostRuntime) {
 // The second of two rows is taken.
 #[test]
 fn a_run_goes_by_a_list_of_picks(rt: HostRuntime) {
-    let mut hub = begun(&rt, WANTED_TWICE, None);
+    let mut hub = begun(&rt, WANTED_TWICE);
     let picks = Vec::from_array(rt.alloc(), [0, 1]).expect(&rt, MEMORY);
     let mut chooser = Script::new(picks);
     let end = hub.run_alone(rt.alloc(), &mut chooser).expect(&rt, MEMORY);
     assert!(rt; end == End::Quiet && hub.out() == "20\n" && hub.pending() == 1);
     drop(chooser);
-    drop(hub);
-}
-
-fn are_apart(rt: &impl Abort, first: &Report, second: &Report) {
-    let copy = first.copy().expect(rt, MEMORY);
-    assert!(rt; copy.same(first) && !copy.same(second));
-    drop(copy);
-}
-
-#[test]
-fn reports_are_told_apart(rt: HostRuntime) {
-    let mut hub = begun(&rt, ADDITION, Some(3));
-    prints(&rt, &mut hub, "42\n");
-    match hub.reports() {
-        [first, second] => are_apart(&rt, first, second),
-        _ => assert!(rt; false),
-    }
     drop(hub);
 }

@@ -1,9 +1,16 @@
-//! Tests of the libraries' own calls: of those that the program makes nowhere, and of what only a caller of a library can ask.
+//! Tests of the libraries' own calls: of those that the program makes nowhere, of what only a caller of a library can ask, and of words that
+//! no case prints.
 #![tactic(auto)]
 
 #[cfg(test)]
 mod books;
 pub mod choosing;
+#[cfg(test)]
+mod desks;
+#[cfg(test)]
+mod endings;
+#[cfg(test)]
+mod explorations;
 #[cfg(test)]
 mod groups;
 #[cfg(test)]
@@ -17,8 +24,20 @@ mod making;
 #[cfg(test)]
 mod phrases;
 #[cfg(test)]
+mod properties;
+#[cfg(test)]
+mod reasons;
+#[cfg(test)]
 mod scans;
+#[cfg(test)]
+mod schedules;
+#[cfg(test)]
+mod scripts;
+#[cfg(test)]
+mod shrinkings;
 #[cfg(test)]
 mod tables;
 #[cfg(test)]
 mod values;
+#[cfg(test)]
+mod workers;

@@ -1,4 +1,4 @@
-//! The slices of a thread, which are run in each way, and where the answers are put in by hand.
+//! The slices of a thread, where the answers are put in by hand.
 
 ghost use Rattle.std.specs.Prelude.{◌≡◌, IfSome};
 ghost use Rattle.cml_step.specs.{Answers.{top_await}, AskViews.{plain_ask}, Machines.{machine_term, Fits}};
@@ -6,11 +6,11 @@ ghost use Rattle.cml_step.specs.Answers as answers;
 
 use crate::making::{MEMORY, program_of};
 use cml_check::Prog;
-use cml_step::{Answer, Ask, Machine, Undo, run_slice, slice};
+use cml_step::{Answer, Ask, Machine, slice};
 use cml_value::{FnRef, NackId, Tid, Value, ValueKind};
 use std::process::Abort;
 
-// Its slices have 1, 2 and 2 steps: it gives up its turn, asks for a nack, and waits for it.
+// Its first slices have 1 and 2 steps: it gives up its turn, and asks for a nack.
 const SCRIPT: &str = "(fn g (n) (return n)) (fn main () (yield) (sync (withnack g)))";
 
 // The nack is given to the thread in both ways.
@@ -57,31 +57,6 @@ fn go_on(
     }
 }
 
-// Runs the slice where a copy of the thread stands, which is to end there after so many steps, and puts the copy back.
-fn run_and_put_back(
-    rt: &(impl Abort + AllocGlobal),
-    program: &Prog,
-    start: &Machine,
-    end: &Machine,
-    steps: u32,
-)
-    requires fits { Fits program.now start.now }
-    requires awaits { top_await (machine_term program.now start.now) ≡ answers.nothing }
-{
-    let mut machine = start.copy(rt.alloc()).expect(rt, MEMORY);
-    let mut undo = Undo::new(rt.alloc());
-    let mut asked = Ask::Nothing;
-    let count = machine
-        .run_undoing(rt.alloc(), program, &mut undo, &mut asked)
-        .expect(rt, MEMORY);
-    drop(asked);
-    assert!(rt; count == steps && machine.same(end));
-    undo.put_back(&mut machine);
-    assert!(rt; machine.same(start));
-    drop(undo);
-    drop(machine);
-}
-
 // The slice of the thread, of so many steps: where it ends, and what it asks.
 fn slice_of(
     rt: &(impl Abort + AllocGlobal),
@@ -95,12 +70,8 @@ fn slice_of(
     ensures awaits { top_await (machine_term program.now result.0)
         ≡ answers.await_of (plain_ask result.1) }
 {
-    let alone = run_slice(rt.alloc(), program, &machine).expect(rt, MEMORY);
     let ran = slice(rt.alloc(), program, machine).expect(rt, MEMORY);
-    assert!(rt; alone.steps == steps && ran.steps() == steps);
-    assert!(rt; alone.end.same(ran.end()));
-    drop(alone);
-    run_and_put_back(rt, program, ran.start(), ran.end(), steps);
+    assert!(rt; ran.steps() == steps);
     ran.into_end()
 }
 
@@ -124,20 +95,6 @@ fn a_thread_goes_slice_by_slice(rt: HostRuntime) {
     let start = Machine::start(rt.alloc(), &program, Tid(0), main).expect(&rt, MEMORY);
     let first = after(&rt, &program, start, 1);
     let second = after(&rt, &program, first, 2);
-    let (end, ask) = slice_of(&rt, &program, second, 2);
-    drop(end);
-    assert!(rt; matches!(&ask, Ask::Sync(_)));
-    drop(ask);
-    drop(program);
-}
-
-#[test]
-fn a_program_and_its_copy(rt: HostRuntime) {
-    let program = program_of(&rt, SCRIPT);
-    assert!(rt; program.functions() == 2 && program.main() == 1);
-    assert!(rt; program.arity(0) == Some(1) && program.arity(2).is_none());
-    let copy = program.copy().expect(&rt, MEMORY);
-    assert!(rt; copy.same(&program));
-    drop(copy);
+    drop(second);
     drop(program);
 }

@@ -1,7 +1,8 @@
 //! What the tests are made of, in few words. Running out of memory ends a test.
 
 use cml_check::{Prog, check};
-use cml_text::read;
+use cml_hub::{Plan, read_schedule};
+use cml_text::{Sexpr, read};
 use cml_value::{Base, BaseKind, FnRef, Group, GroupKind, Value, ValueKind};
 use std::process::Abort;
 
@@ -12,12 +13,30 @@ pub const ADDITION: &str = "(fn add (a b) (return (+ a b))) \
      (fn give (c) (sync (send c 41))) \
      (fn main () (let c (chan)) (spawn give c) (let x (sync (wrap (recv c) add 1))) (print x))";
 
+/// The forms of a script.
+pub fn forms(rt: &(impl Abort + AllocGlobal), script: &str) -> Vec<Sexpr> {
+    read(rt.alloc(), script.as_bytes()).expect(rt, "forms")
+}
+
+/// The program of these forms.
+pub fn program(rt: &(impl Abort + AllocGlobal), forms: &[Sexpr]) -> Prog {
+    check(rt.alloc(), forms).expect(rt, "a program")
+}
+
 /// The program of the script.
 pub fn program_of(rt: &(impl Abort + AllocGlobal), script: &str) -> Prog {
-    let forms = read(rt.alloc(), script.as_bytes()).expect(rt, "forms");
-    let program = check(rt.alloc(), forms.as_slice()).expect(rt, "a program");
+    let forms = forms(rt, script);
+    let program = program(rt, forms.as_slice());
     drop(forms);
     program
+}
+
+/// The schedule of these items.
+pub fn scheduled(rt: &(impl Abort + AllocGlobal), items: &str) -> Plan {
+    let text = format!(in rt.alloc(); "schedule 2 1000 1 1\n{items}end\n").expect(rt, MEMORY);
+    read_schedule(rt.alloc(), text.as_bytes())
+        .ok()
+        .expect(rt, items)
 }
 
 pub fn int(z: i64) -> Value {

@@ -1,7 +1,7 @@
 //! Values and events: their sizes by hand, many nodes, and parts that are shared again and again.
 
 use crate::making::{MEMORY, function, int};
-use cml_value::{Base, BaseKind, ChanId, Event, EventKind, NackId, Value, ValueKind};
+use cml_value::{Base, BaseKind, ChanId, Event, EventKind, NackId, Value};
 use std::process::Abort;
 
 // A pair of the value and itself, and of that and itself, and so on: 2^(times + 1) - 1 nodes.
@@ -58,19 +58,4 @@ fn an_event_is_measured(rt: HostRuntime) {
     assert!(rt; copy.same(&event));
     drop(event);
     drop(copy);
-}
-
-#[test]
-fn a_pair_is_taken_apart(rt: HostRuntime) {
-    let pair = Value::pair(rt.alloc(), int(7), int(8)).expect(&rt, MEMORY);
-    match pair.into_kind() {
-        ValueKind::Pair(parts) => {
-            assert!(rt; matches!(parts.first().kind(), ValueKind::Int(7)));
-            drop(parts);
-        }
-        other => {
-            drop(other);
-            assert!(rt; false);
-        }
-    }
 }

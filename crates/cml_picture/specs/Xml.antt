@@ -16,7 +16,7 @@ plain_character c = if is_character c then encode_utf8 c else codes "?"
 abbrev pub escaped_character : ℕ → List ℕ
 escaped_character c =
     if c == 38 then codes "&amp;" else (if c == 60 then codes "&lt;" else (if c == 62 then codes "&gt;" else (if c == 34 then codes "&quot;" else
-        (if c == 39 then codes "&apos;" else plain_character c))))
+    (if c == 39 then codes "&apos;" else plain_character c))))
 
 abbrev pub escaped_characters : List ℕ → List ℕ
 escaped_characters text = flat_map escaped_character (chars text)

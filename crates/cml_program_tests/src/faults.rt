@@ -1,10 +1,8 @@
-//! Streams that fail: the first failing read or write ends the program, and what was written before it stands.
+//! Streams that fail, and a store that is closed: what was written before it stands, and nothing comes after but what went wrong.
 
-use crate::run::{Runtime, filled, left_by, words};
-use cml_host::{Store, run_command};
-use cml_memory::MemoryStore;
-use std::alloc::Global;
-use std::io::{Error, ErrorKind, Read, Result as IoResult, Write};
+use crate::run::{ADDED, ADDITION, ALL, Good, Left, Runtime, filled, left_with};
+use cml_host::Store;
+use std::process::Abort;
 use std::test::Fail;
 
 // Traces: a value goes over a channel, and messages come to ports.
@@ -13,179 +11,134 @@ const TRACES: &[&str] = &[
     "spawn\nmchan\nport 0\nmulticast 0 1\nmulticast 0 2\ncopy 0\nport 0\nsync 0 (portrecv 0)\ncommit 0 0\nsync 0 (portrecv 1)\ncommit 0 0\nsync 0 (portrecv 0)\ncommit 0 0\nsync 0 (portrecv 1)\ncommit 0 0\nsync 0 (portrecv 2)\nrows\n",
 ];
 
-// What is written to the errors at the first read that fails.
-const UNREAD: (&[u8], &str, u8) = (b"", "cannot read input\n", 1);
+const FILES: &[(&str, &str)] = &[
+    ("A", ADDITION),
+    ("F", "(fn main () (print 007))"),
+    ("R", ADDED),
+];
 
-// Arguments over a file with this script.
-const COMMANDS: &[&str] = &["check F", "fmt F", "run F", "--help"];
+// Arguments over these files, a line for each run.
+const RUNS: &str = "--help
+check F
+fmt F
+run F
+run A --watch 4 --record S
+run A --watch 4 --record S --steps 6
+replay A R --watch 4
+explain A R --from 7
+";
 
-const SCRIPT: &str = "(fn main () (print 007))";
+const CANNOT_WRITE: &str = "cannot write output\n";
 
-/// A reader that gives a byte at a time, and is interrupted before each. One read fails, after this many good ones; those after it don't.
-#[derive(Drop)]
-struct Dripping<'a> {
-    rest: &'a [u8],
-    interrupted: bool,
-    good: usize,
-}
-
-impl<'a> Read for Dripping<'a> {
-    fn read(&mut self, buf: &mut [u8]) -> IoResult<usize> {
-        self.interrupted = !self.interrupted;
-        if self.interrupted {
-            return Err(Error::from(ErrorKind::Interrupted));
-        }
-        let Some(good) = self.good.checked_sub(1) else {
-            self.good = usize::MAX;
-            return Err(Error::from(ErrorKind::Other));
-        };
-        self.good = good;
-        if buf.is_empty() || self.rest.is_empty() {
-            return Ok(0);
-        }
-        buf[0] = self.rest[0];
-        self.rest = &self.rest[1..];
-        Ok(1)
-    }
-}
-
-/// A writer that takes a byte at a time. One write fails, after this many good ones, or takes nothing; those after it don't.
-#[derive(Drop)]
-pub struct Narrow {
-    /// What it took.
-    pub taken: Vec<u8>,
-    good: usize,
-    takes_nothing: bool,
-}
-
-impl Write for Narrow {
-    fn write(&mut self, buf: &[u8]) -> IoResult<usize> {
-        let Some(good) = self.good.checked_sub(1) else {
-            self.good = usize::MAX;
-            if self.takes_nothing {
-                return Ok(0);
-            }
-            return Err(Error::from(ErrorKind::Other));
-        };
-        self.good = good;
-        if buf.is_empty() {
-            return Ok(0);
-        }
-        self.taken.push(buf[0])?;
-        Ok(1)
-    }
-
-    fn flush(&mut self) -> IoResult<()> {
-        Ok(())
-    }
-}
-
-// What comes of the arguments, with the text as input and in the file `F`, and streams that fail after this many good calls: what was
-// taken, what is written to the errors, the status.
-fn ends(
+// What the program leaves on these arguments and this input, over streams that may fail and a store that may be closed. Whether something
+// is saved is known.
+fn leaves(
     rt: &impl Runtime,
-    (line, text): (&str, &str),
-    reads: usize,
-    mut out: Narrow,
-    expected: (&[u8], &str, u8),
-) -> Result<(), Fail> {
-    let alloc = rt.alloc();
-    let words = words(alloc, line)?;
-    let mut reader = Dripping {
-        rest: text.as_bytes(),
-        interrupted: false,
-        good: reads,
-    };
-    let mut err = Vec::new(alloc);
-    let mut store = MemoryStore::new(alloc);
-    assert!(rt; store.save("F", text.as_bytes()).is_ok());
-    let status = run_command(
-        rt,
-        alloc,
-        words.as_slice(),
-        &mut reader,
-        &mut out,
-        &mut err,
-        &mut store,
-    );
-    assert!(rt;
-        out.taken.as_slice() == expected.0,
-        "output after {reads} reads"
-    );
-    assert!(rt;
-        err.as_slice() == expected.1.as_bytes(),
-        "errors after {reads} reads"
-    );
-    assert!(rt; status == expected.2, "status after {reads} reads");
-    drop(words);
-    drop(out);
-    drop(err);
-    drop(store);
-    Ok(())
-}
-
-/// A writer that takes this many bytes before it fails.
-pub fn taking(alloc: Global, good: usize, takes_nothing: bool) -> Narrow {
-    Narrow {
-        taken: Vec::new(alloc),
-        good,
-        takes_nothing,
+    asked: (&str, &str),
+    good: Good,
+    is_closed: bool,
+    is_saved: bool,
+) -> Result<Left, Fail> {
+    let mut store = filled(rt, FILES);
+    if is_closed {
+        store.close();
     }
-}
-
-/// A writer of which no write fails.
-pub fn taking_all(alloc: Global) -> Narrow {
-    taking(alloc, usize::MAX, false)
-}
-
-// What is written in answer to these arguments where nothing fails.
-fn whole(rt: &impl Runtime, line: &str, text: &'static str) -> Result<Vec<u8>, Fail> {
-    let mut store = filled(rt, &[("F", text)]);
-    let left = left_by(rt, line, text, &mut store)?;
-    assert!(rt;
-        left.status == 0 && left.errors.is_empty() && !left.output.is_empty(),
-        "{line}"
-    );
+    let left = left_with(rt, asked, good, &mut store)?;
+    let saved = store.load(rt.alloc(), "S", 1_000_000);
+    assert!(rt; saved.is_ok() == is_saved);
+    drop(saved);
     drop(store);
-    Ok(left.output)
+    Ok(left)
+}
+
+// It left the first bytes of the output, the first bytes of the errors and after them this line, with status 1.
+fn is_cut(rt: &impl Abort, left: &Left, output: &[u8], errors: &[u8], line: &str) {
+    let length = errors.len();
+    assert!(rt; left.output.as_slice() == output);
+    assert!(rt; left.errors.len() == length + line.len());
+    assert!(rt; &left.errors[..length] == errors && &left.errors[length..] == line.as_bytes());
+    assert!(rt; left.status == 1);
 }
 
 #[test]
 fn each_read_fails(rt: HostRuntime) -> Result<(), Fail> {
-    let alloc = rt.alloc();
     for &input in TRACES {
-        let output = whole(&rt, "trace", input)?;
         for reads in 0..=input.len() {
-            ends(&rt, ("trace", input), reads, taking_all(alloc), UNREAD)?;
+            let good = Good { reads, ..ALL };
+            let left = leaves(&rt, ("trace", input), good, false, false)?;
+            is_cut(&rt, &left, b"", b"", "cannot read input\n");
+            drop(left);
         }
-        let expected = (output.as_slice(), "", 0);
-        ends(
-            &rt,
-            ("trace", input),
-            usize::MAX,
-            taking_all(alloc),
-            expected,
-        )?;
-        drop(output);
     }
     Ok(())
 }
 
-// Each write of what is written in answer to these arguments fails in turn, or takes nothing.
-fn writes_fail(rt: &impl Runtime, line: &str, input: &'static str) -> Result<(), Fail> {
-    let alloc = rt.alloc();
-    let output = whole(rt, line, input)?;
-    let text = output.as_slice();
-    for writes in 0..text.len() {
-        for takes_nothing in [false, true] {
-            let out = taking(alloc, writes, takes_nothing);
-            let expected = (&text[..writes], "cannot write output\n", 1);
-            ends(rt, (line, input), usize::MAX, out, expected)?;
-        }
+// Each write of the output fails in turn, or takes nothing.
+fn outputs_fail(
+    rt: &impl Runtime,
+    asked: (&str, &str),
+    whole: &Left,
+    takes_nothing: bool,
+) -> Result<(), Fail> {
+    let text = whole.output.as_slice();
+    for output in 0..text.len() {
+        let good = Good {
+            output,
+            takes_nothing,
+            ..ALL
+        };
+        let left = leaves(rt, asked, good, false, false)?;
+        is_cut(
+            rt,
+            &left,
+            &text[..output],
+            whole.errors.as_slice(),
+            CANNOT_WRITE,
+        );
+        drop(left);
     }
-    let out = taking(alloc, text.len(), false);
-    ends(rt, (line, input), usize::MAX, out, (text, "", 0))?;
-    drop(output);
+    Ok(())
+}
+
+// Each write of the errors fails in turn, or takes nothing.
+fn errors_fail(
+    rt: &impl Runtime,
+    asked: (&str, &str),
+    whole: &Left,
+    takes_nothing: bool,
+) -> Result<(), Fail> {
+    let text = whole.errors.as_slice();
+    for errors in 0..text.len() {
+        let good = Good {
+            errors,
+            takes_nothing,
+            ..ALL
+        };
+        let left = leaves(rt, asked, good, false, false)?;
+        is_cut(rt, &left, b"", &text[..errors], CANNOT_WRITE);
+        drop(left);
+    }
+    Ok(())
+}
+
+// Each write of the run fails in turn; as many good writes as it has are enough.
+fn writes_fail(rt: &impl Runtime, line: &str, input: &str) -> Result<(), Fail> {
+    let is_saved = line.contains("--record");
+    let whole = leaves(rt, (line, input), ALL, false, is_saved)?;
+    for takes_nothing in [false, true] {
+        outputs_fail(rt, (line, input), &whole, takes_nothing)?;
+        errors_fail(rt, (line, input), &whole, takes_nothing)?;
+    }
+    let good = Good {
+        output: whole.output.len(),
+        errors: whole.errors.len(),
+        ..ALL
+    };
+    let left = leaves(rt, (line, input), good, false, is_saved)?;
+    assert!(rt; left.output.as_slice() == whole.output.as_slice() && left.status == whole.status);
+    assert!(rt; left.errors.as_slice() == whole.errors.as_slice());
+    drop(left);
+    drop(whole);
     Ok(())
 }
 
@@ -194,8 +147,50 @@ fn each_write_fails(rt: HostRuntime) -> Result<(), Fail> {
     for &input in TRACES {
         writes_fail(&rt, "trace", input)?;
     }
-    for &line in COMMANDS {
-        writes_fail(&rt, line, SCRIPT)?;
+    for line in RUNS.lines() {
+        writes_fail(&rt, line, "")?;
+    }
+    Ok(())
+}
+
+#[test]
+fn a_record_is_refused(rt: HostRuntime) -> Result<(), Fail> {
+    let asked = ("run A --watch 4 --record S", "");
+    let whole = leaves(&rt, asked, ALL, false, true)?;
+    let (output, errors) = (whole.output.as_slice(), whole.errors.as_slice());
+    let left = leaves(&rt, asked, ALL, true, false)?;
+    is_cut(&rt, &left, output, errors, "cannot write S\n");
+    drop(left);
+    // a write of that line fails too, and the status is the same
+    let good = Good {
+        errors: errors.len().saturating_add(3),
+        ..ALL
+    };
+    let left = leaves(&rt, asked, good, true, false)?;
+    is_cut(&rt, &left, output, errors, "can");
+    drop(left);
+    drop(whole);
+    Ok(())
+}
+
+// With workers the reports are on their way before the output is known: which of them come first is open, and what is told of a write that
+// fails is not.
+#[test]
+fn each_write_beside_workers_fails(rt: HostRuntime) -> Result<(), Fail> {
+    let asked = ("run A --workers 4 --watch 1 --record S", "");
+    for errors in 0..60usize {
+        let left = leaves(&rt, asked, Good { errors, ..ALL }, false, false)?;
+        assert!(rt; left.output.is_empty() && left.status == 1);
+        assert!(rt; left.errors.ends_with(CANNOT_WRITE.as_bytes()));
+        assert!(rt; left.errors.len() == errors + CANNOT_WRITE.len());
+        drop(left);
+    }
+    let text = b"42\nend quiet pending 0\n".as_slice();
+    for output in 0..text.len() {
+        let left = leaves(&rt, asked, Good { output, ..ALL }, false, false)?;
+        assert!(rt; left.output.as_slice() == &text[..output] && left.status == 1);
+        assert!(rt; left.errors.ends_with(CANNOT_WRITE.as_bytes()));
+        drop(left);
     }
     Ok(())
 }

@@ -5,18 +5,14 @@
 mod faults;
 #[cfg(test)]
 mod gates;
-#[cfg(test)]
-mod progress;
 pub mod random;
 #[cfg(test)]
 mod run;
 #[cfg(test)]
-mod script_ends;
-#[cfg(test)]
-mod script_faults;
-#[cfg(test)]
-mod scripts;
-#[cfg(test)]
 mod stores;
+#[cfg(test)]
+mod streams;
+#[cfg(test)]
+mod texts;
 #[cfg(test)]
 mod workers;

@@ -1,5 +1,6 @@
-//! The program, over memory.
+//! The program, over memory, and streams of which one call may fail.
 
+use crate::streams::{dripping, taking};
 use cml_host::{Store, run_command};
 use cml_memory::MemoryStore;
 use std::alloc::{AllocError, Global};
@@ -26,10 +27,6 @@ pub const CANCELLED: &str = "(fn watch (n) (sync n) (print \"cancelled\")) \
 pub const COUNTER: &str = "(fn add (m) (let x (sync (mtake m))) (mput m (+ x 1))) \
      (fn main () (let m (mvar 0)) (let a (spawn add m)) (let b (spawn add m)) (sync (join a)) (sync (join b)) (let x (sync (mget m))) (print x))";
 
-/// Two threads that exchange values.
-pub const SWAPPED: &str = "(fn other (s) (let y (sync (swap s 2))) (print y)) \
-     (fn main () (let s (swapchan)) (spawn other s) (let x (sync (swap s 1))) (print x))";
-
 /// How the addition goes by itself, as it is recorded.
 pub const ADDED: &str =
     "schedule 2 1000000 3 6\nturn 0\nturn 0\nturn 1\nturn 0\ncommit 1 0 0 0\nturn 1\nturn 0\nturn 0\nend\n";
@@ -44,6 +41,23 @@ pub fn words(alloc: Global, line: &str) -> Result<Vec<String>, AllocError> {
     Ok(words)
 }
 
+/// How many calls of each stream are good before one fails, and whether a write that should fail takes nothing instead.
+#[derive(Clone, Copy)]
+pub struct Good {
+    pub reads: usize,
+    pub output: usize,
+    pub errors: usize,
+    pub takes_nothing: bool,
+}
+
+/// All calls are good.
+pub const ALL: Good = Good {
+    reads: usize::MAX,
+    output: usize::MAX,
+    errors: usize::MAX,
+    takes_nothing: false,
+};
+
 /// What a run left.
 #[derive(Drop)]
 pub struct Left {
@@ -52,38 +66,38 @@ pub struct Left {
     pub status: u8,
 }
 
-impl Left {
-    // What a run leaves that has not begun.
-    fn nothing(alloc: Global) -> Left {
-        Left {
-            output: Vec::new(alloc),
-            errors: Vec::new(alloc),
-            status: 0,
-        }
-    }
-}
-
-/// What the program leaves that is run on this line of arguments and this input, over the store.
-pub fn left_by(
+/// What the program leaves that is run on this line of arguments and this input, over these streams and the store.
+pub fn left_with(
     rt: &impl Runtime,
-    line: &str,
-    input: &str,
+    (line, input): (&str, &str),
+    good: Good,
     store: &mut MemoryStore,
 ) -> Result<Left, AllocError> {
     let alloc = rt.alloc();
     let words = words(alloc, line)?;
-    let mut left = Left::nothing(alloc);
-    left.status = run_command(
+    let mut reader = dripping(input.as_bytes(), good.reads);
+    let mut output = taking(alloc, good.output, good.takes_nothing);
+    let mut errors = taking(alloc, good.errors, good.takes_nothing);
+    let status = run_command(
         rt,
         alloc,
         words.as_slice(),
-        &mut input.as_bytes(),
-        &mut left.output,
-        &mut left.errors,
+        &mut reader,
+        &mut output,
+        &mut errors,
         store,
     );
     drop(words);
-    Ok(left)
+    Ok(Left {
+        output: output.taken,
+        errors: errors.taken,
+        status,
+    })
+}
+
+/// The same, over streams that are good.
+pub fn left_by(rt: &impl Runtime, line: &str, store: &mut MemoryStore) -> Result<Left, AllocError> {
+    left_with(rt, (line, ""), ALL, store)
 }
 
 /// A store that holds these files.

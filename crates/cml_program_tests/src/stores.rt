@@ -1,43 +1,9 @@
-//! The store in memory.
+//! The store in memory, and why a store refuses, in words.
 
-use crate::run::words;
-use cml_host::{Reason, Store, StoreFault, run_command};
+use cml_host::{Reason, Store, StoreFault};
 use cml_memory::MemoryStore;
-use std::alloc::Global;
+use std::process::Abort;
 use std::test::Fail;
-
-// A store that refuses all, for this reason.
-#[derive(Drop)]
-struct Refusing(Reason);
-
-impl Store for Refusing {
-    ghost use Rattle.cml_host.specs.Stores.{unknown};
-
-    ghost holds = { λ store name. unknown };
-
-    fn load(&mut self, _alloc: Global, _name: &str, _limit: usize) -> Result<Vec<u8>, StoreFault> {
-        Err(StoreFault::Refused(Some(self.0)))
-    }
-
-    fn save(&mut self, _name: &str, _bytes: &[u8]) -> Result<(), StoreFault> {
-        Err(StoreFault::Refused(Some(self.0)))
-    }
-}
-
-// Each reason, in the words of the system.
-const REASONS: &[(Reason, &str)] = &[
-    (Reason::NotFound, "No such file or directory"),
-    (Reason::Denied, "Permission denied"),
-    (Reason::IsFolder, "Is a directory"),
-    (Reason::NoFolder, "Not a directory"),
-    (Reason::LongName, "File name too long"),
-    (Reason::Loop, "Too many levels of symbolic links"),
-    (Reason::ReadOnly, "Read-only file system"),
-    (Reason::Full, "No space left on device"),
-    (Reason::Quota, "Disk quota exceeded"),
-    (Reason::TooLarge, "File too large"),
-    (Reason::Busy, "Text file busy"),
-];
 
 // A name, a limit, and what is handed over.
 const LOADS: &[(&str, usize, &str)] = &[
@@ -69,28 +35,20 @@ fn what_was_saved_is_loaded(rt: HostRuntime) -> Result<(), Fail> {
     Ok(())
 }
 
+fn says(rt: &impl Abort, reason: Reason, words: &str) {
+    assert!(rt; reason.words() == words);
+}
+
+// Each reason that no case has, in the words of the system.
 #[test]
-fn each_reason_is_told(rt: HostRuntime) -> Result<(), Fail> {
-    let alloc = rt.alloc();
-    let line = words(alloc, "check x --explain")?;
-    for (reason, told) in REASONS {
-        let mut store = Refusing(*reason);
-        let (mut output, mut errors) = (Vec::new(alloc), Vec::new(alloc));
-        let mut input = b"".as_slice();
-        let status = run_command(
-            &rt,
-            alloc,
-            line.as_slice(),
-            &mut input,
-            &mut output,
-            &mut errors,
-            &mut store,
-        );
-        let wanted = format!(in alloc; "cannot read x\nx: {told}\n")?;
-        assert!(rt; status == 1 && output.is_empty(), "{told}");
-        assert!(rt; errors.as_slice() == wanted.as_bytes(), "{told}");
-        drop(errors);
-    }
-    drop(line);
-    Ok(())
+fn reasons_in_words(rt: HostRuntime) {
+    says(&rt, Reason::Denied, "Permission denied");
+    says(&rt, Reason::IsFolder, "Is a directory");
+    says(&rt, Reason::NoFolder, "Not a directory");
+    says(&rt, Reason::LongName, "File name too long");
+    says(&rt, Reason::Loop, "Too many levels of symbolic links");
+    says(&rt, Reason::Full, "No space left on device");
+    says(&rt, Reason::Quota, "Disk quota exceeded");
+    says(&rt, Reason::TooLarge, "File too large");
+    says(&rt, Reason::Busy, "Text file busy");
 }

@@ -46,7 +46,7 @@ breaks_next watch lines line seen =
     not_not (is_broken_by watch.property.now watch.marked line) ∙ ap not (sym (line_step watch.property.now lines line watch.marked seen.marked seen.kept))
 
 -- a run that keeps the property kept it before it ended
-kept_open : (property : Property) (lines : List PlainLine) (finish : Finish) → keeps property lines finish ≡ true → keeps property lines GoesOn ≡ true
+pub kept_open : (property : Property) (lines : List PlainLine) (finish : Finish) → keeps property lines finish ≡ true → keeps property lines GoesOn ≡ true
 kept_open (Never p) lines finish h = h
 kept_open (Always p) lines finish h = or_right (list_any (marks (Always p)) lines) true refl
 kept_open (Once p) lines finish h = h

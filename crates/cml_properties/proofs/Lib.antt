@@ -8,3 +8,4 @@ pub mod SortLemmas
 pub mod OneThing
 pub mod OwnLemmas
 pub mod BreachLemmas
+pub mod LawLemmas

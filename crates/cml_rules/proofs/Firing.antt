@@ -61,7 +61,7 @@ settle_fires ns g s k h =
     (λ less.
     let before = sym (with_each-other s.fired fired (with_each (branches g) held ns) k (none_of _ less)) ∙ h in
     ⊎_elim (λ few. inr (sym (with_each-other (branches g) held ns k (none_of _ few)) ∙ before))
-        (λ named. absurd (not_that held fired differ_held (branches g) ns k named before)) (below (times_named k (branches g)) 1))
+    (λ named. absurd (not_that held fired differ_held (branches g) ns k named before)) (below (times_named k (branches g)) 1))
     (λ named. inl named)
     (below (times_named k s.fired) 1)
 

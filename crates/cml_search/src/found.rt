@@ -1,6 +1,6 @@
 //! The states that a search finds.
 
-ghost use Rattle.std.specs.Prelude.{Contains, ◌≡◌, ◌<◌, ◌≤◌, ◌+◌, ◌++◌, ℕ, Bool, List, [], ◌∷◌, length, map, slice_get, false, true, IfOk, OnOk, IfSome, IsSome, IsTrue};
+ghost use Rattle.std.specs.Prelude.{Contains, ◌≡◌, ◌<◌, ◌≤◌, ◌+◌, ◌++◌, ℕ, Bool, List, [], ◌∷◌, Some, length, map, slice_get, false, true, IfOk, OnOk, IfSome, IsSome, IsTrue};
 ghost use Rattle.std.specs.List.{All};
 ghost use Rattle.cml_search.specs.Systems.{run, IsReached, IsTerminal, IsSchedule, LeadsTo, LeadsInto};
 ghost use Rattle.indexmap.specs.IndexSet.{IsUnique};
@@ -104,6 +104,7 @@ pub(crate) fn follow<Y: System>(
     ensures keeps { OnOk result (Keeps (Y.rules system.now) (map (Y.state_of system.now) found.new.kept.keys) found.new.origins.items) }
     ensures longer { OnOk result (IsLonger (map (Y.state_of system.now) found.old.kept.keys) (map (Y.state_of system.now) found.new.kept.keys)) }
     ensures leads { OnOk result (LeadsTo (Y.rules system.now) schedule.now (λ s. LeadsInto (Y.rules system.now) (map (Y.state_of system.now) found.new.kept.keys) s item)) }
+    ensures one { OnOk result (length found.new.kept.keys ≤ length found.old.kept.keys + 1) }
     ensures broad { OnOk result ((q : Bool) (begun : List Y.Item) → IsBroad (Y.rules system.now) q at (map (Y.state_of system.now) found.old.kept.keys) found.old.origins.items begun
         → IsBroad (Y.rules system.now) q at (map (Y.state_of system.now) found.new.kept.keys) found.new.origins.items (begun ++ item ∷ [])) }
 {
@@ -135,6 +136,7 @@ pub(crate) fn follow_all<Y: System>(
     ensures leads { IfOk result (λ all. IsTrue all → LeadsTo (Y.rules system.now) schedule.now (λ s. All (LeadsInto (Y.rules system.now) (map (Y.state_of system.now) found.new.kept.keys) s) items.now)) }
     ensures bounded { IfOk result (λ all. IsTrue all → length found.new.kept.keys ≤ bound) }
     ensures full { IfOk result (λ all. all ≡ false → bound < length found.new.kept.keys) }
+    ensures over { OnOk result (length found.new.kept.keys ≤ bound + 1) }
     ensures broad { IfOk result (λ all. IsTrue all → (q : Bool) → IsBroad (Y.rules system.now) q at (map (Y.state_of system.now) found.old.kept.keys) found.old.origins.items []
         → IsBroad (Y.rules system.now) q at (map (Y.state_of system.now) found.new.kept.keys) found.new.origins.items items.now) }
     ensures some { OnOk result ((q : Bool) → IsBroad (Y.rules system.now) q at (map (Y.state_of system.now) found.old.kept.keys) found.old.origins.items []
@@ -189,6 +191,7 @@ fn follow_at<Y: System>(
     ensures some { OnOk result (IsSearch (Y.rules system.now) quietly at (map (Y.state_of system.now) found.new.kept.keys) found.new.origins.items) }
     ensures bounded { IfOk result (λ all. IsTrue all → length found.new.kept.keys ≤ bound) }
     ensures full { IfOk result (λ all. all ≡ false → bound < length found.new.kept.keys) }
+    ensures over { OnOk result (length found.new.kept.keys ≤ bound + 1) }
     ensures search { IfOk result (λ all. IsTrue all → IsSearch (Y.rules system.now) quietly (at + 1) (map (Y.state_of system.now) found.new.kept.keys) found.new.origins.items) }
     ensures followed { IfOk result (λ all. IsTrue all → IfSome (slice_get (map (Y.state_of system.now) found.old.kept.keys) at)
         (WasFollowed (Y.rules system.now) quietly (map (Y.state_of system.now) found.new.kept.keys))) }
@@ -214,6 +217,8 @@ fn search<Y: System>(
     ensures whole { IfOk result (λ f. IsTrue f.whole → f.followed ≡ length f.kept.keys) }
     ensures stopped { IfOk result (λ f. f.whole ≡ false → f.followed < length f.kept.keys) }
     ensures full { IfOk result (λ f. f.whole ≡ false → bound < length f.kept.keys) }
+    ensures bounded { IfOk result (λ f. IsTrue f.whole → length f.kept.keys ≤ bound) }
+    ensures over { IfOk result (λ f. length f.kept.keys ≤ bound + 1) }
     ensures quietly { IfOk result (λ f. f.quietly ≡ quietly) }
 {
     let mut found = begin(alloc, system, quietly)?;
@@ -245,8 +250,11 @@ pub fn all_states<Y: System>(
     requires { 0 < bound }
     ensures search { IfOk result (λ f. IsSearch (Y.rules system.now) f.quietly f.followed (map (Y.state_of system.now) f.kept.keys) f.origins.items) }
     ensures any { IfOk result (λ f. f.quietly ≡ false) }
+    ensures whole { IfOk result (λ f. IsTrue f.whole → f.followed ≡ length f.kept.keys) }
     ensures stopped { IfOk result (λ f. f.whole ≡ false → f.followed < length f.kept.keys) }
     ensures full { IfOk result (λ f. f.whole ≡ false → bound < length f.kept.keys) }
+    ensures bounded { IfOk result (λ f. IsTrue f.whole → length f.kept.keys ≤ bound) }
+    ensures over { IfOk result (λ f. length f.kept.keys ≤ bound + 1) }
     ensures all { IfOk result (λ f. IsTrue f.whole → (s : Y.State) → IsReached (Y.rules system.now) s → Contains (map (Y.state_of system.now) f.kept.keys) s) }
 {
     search(alloc, system, false, bound)
@@ -263,7 +271,11 @@ pub fn all_ends<Y: System>(
 ) -> Result<Found<Y::Kept, Y::Item>, Gap>
     requires { 0 < bound }
     ensures search { IfOk result (λ f. IsSearch (Y.rules system.now) f.quietly f.followed (map (Y.state_of system.now) f.kept.keys) f.origins.items) }
+    ensures whole { IfOk result (λ f. IsTrue f.whole → f.followed ≡ length f.kept.keys) }
+    ensures stopped { IfOk result (λ f. f.whole ≡ false → f.followed < length f.kept.keys) }
     ensures full { IfOk result (λ f. f.whole ≡ false → bound < length f.kept.keys) }
+    ensures bounded { IfOk result (λ f. IsTrue f.whole → length f.kept.keys ≤ bound) }
+    ensures over { IfOk result (λ f. length f.kept.keys ≤ bound + 1) }
     ensures ends { IfOk result (λ f. IsTrue f.whole → (s : Y.State) → IsReached (Y.rules system.now) s → IsTerminal (Y.rules system.now) s → Contains (map (Y.state_of system.now) f.kept.keys) s) }
 {
     search(alloc, system, true, bound)
@@ -293,7 +305,10 @@ pub fn schedule_to<Y: System>(
 pub fn reach<Y: System>(_system: &Y, found: &Found<Y::Kept, Y::Item>) -> usize
     requires search { IsSearch (Y.rules _system.now) found.now.quietly found.now.followed (map (Y.state_of _system.now) found.now.kept.keys) found.now.origins.items }
     requires stopped { found.now.followed < length found.now.kept.keys }
-    ensures { (items : List Y.Item) (s : Y.State) → IsSought (Y.rules _system.now) found.now.quietly items s → length items ≤ result → Contains (map (Y.state_of _system.now) found.now.kept.keys) s }
+    ensures depth { (d : ℕ → ℕ) → Depths found.now.origins.items d → result ≡ d found.now.followed }
+    ensures near { (k : ℕ) (s : Y.State) → slice_get (map (Y.state_of _system.now) found.now.kept.keys) k ≡ Some s
+        → (items : List Y.Item) × (run (Y.rules _system.now) (Y.rules _system.now).start items ≡ Some s) × (length items ≤ result + 1) }
+    ensures found { (items : List Y.Item) (s : Y.State) → IsSought (Y.rules _system.now) found.now.quietly items s → length items ≤ result → Contains (map (Y.state_of _system.now) found.now.kept.keys) s }
 {
     let mut count = 0;
     let mut at = found.followed;

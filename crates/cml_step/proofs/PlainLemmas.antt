@@ -13,7 +13,7 @@ use Rattle.cml_step.specs.declared.call.Wait.TheVariants as wait
 use Rattle.cml_step.specs.Agrees.{all_agree}
 use Rattle.cml_step.specs.Calls.{call_at, statements_at, chosen, RunsOn}
 use Rattle.cml_step.specs.Evaluate.{evaluate}
-use Rattle.cml_step.specs.Plain.{running, StepsTo, RunsTo}
+use Rattle.cml_step.specs.Plain.{running, PassesTo, RunsTo}
 use Rattle.cml_step.specs.Slices.{GoesIn}
 use Rattle.cml_step.specs.Steps.{◌>>=◌, goes_on, source_step}
 use Rattle.cml_step.specs.Terms.{Program, Term, call, runs}
@@ -30,7 +30,7 @@ module _ (f : PlainItem ℕ) (fs : List ℕ) (at : ℕ) (vs : List PlainValue) (
 
   -- a slot that is set to a number
   pub number_set : (slot to : ℕ) (z : ℤ) (ws : List PlainValue) → Sets (left f.body) slot e to (left f.body at) → slot < length f.names → slot < length vs →
-      evaluate (slot_value vs) e ≡ Ok (int z) → ws ≡ set vs slot (int z) → StepsTo f at vs to ws
+      evaluate (slot_value vs) e ≡ Ok (int z) → ws ≡ set vs slot (int z) → PassesTo f at vs to ws
   number_set slot to z ws (inl h) named there is same = λ p self below.
       at_statement p self f (bound f.names vs) below at (let_be slot (value e)) (left f.body to) h
       ∙ set_step p self slot to (int z) below named there is ∙ ap (λ xs. goes_on (running f to xs ∷ below)) (sym same)
@@ -40,7 +40,7 @@ module _ (f : PlainItem ℕ) (fs : List ℕ) (at : ℕ) (vs : List PlainValue) (
 
   -- a test
   number_tested : (first second : ℕ) (b : Bool) → Tests (left f.body) e first second (left f.body at) → evaluate (slot_value vs) e ≡ Ok (truth b) →
-      StepsTo f at vs (if b then first else second) vs
+      PassesTo f at vs (if b then first else second) vs
   number_tested first second b (inl h) is = λ p self below.
       let of = value_of (bound f.names vs) in
       branched p self f (bound f.names vs) below e at first second h
@@ -50,11 +50,11 @@ module _ (f : PlainItem ℕ) (fs : List ℕ) (at : ℕ) (vs : List PlainValue) (
       looped p self f (bound f.names vs) below e at first second h
       ∙ ap (λ r. chosen f r first second (bound f.names vs) below) (tested of (expr_map (name_at f.names) e) (truth b) (Ok b) (evaluate_named f.names vs d fs e fits ∙ is) refl)
 
-  pub number_holds : (first second : ℕ) (b : Bool) → Tests (left f.body) e first second (left f.body at) → evaluate (slot_value vs) e ≡ Ok (truth b) → b ≡ true → StepsTo f at vs first vs
-  number_holds first second b h is on = subst (λ t. StepsTo f at vs (if t then first else second) vs) on (number_tested first second b h is)
+  pub number_holds : (first second : ℕ) (b : Bool) → Tests (left f.body) e first second (left f.body at) → evaluate (slot_value vs) e ≡ Ok (truth b) → b ≡ true → PassesTo f at vs first vs
+  number_holds first second b h is on = subst (λ t. PassesTo f at vs (if t then first else second) vs) on (number_tested first second b h is)
 
-  pub number_fails : (first second : ℕ) (b : Bool) → Tests (left f.body) e first second (left f.body at) → evaluate (slot_value vs) e ≡ Ok (truth b) → b ≡ false → StepsTo f at vs second vs
-  number_fails first second b h is off = subst (λ t. StepsTo f at vs (if t then first else second) vs) off (number_tested first second b h is)
+  pub number_fails : (first second : ℕ) (b : Bool) → Tests (left f.body) e first second (left f.body at) → evaluate (slot_value vs) e ≡ Ok (truth b) → b ≡ false → PassesTo f at vs second vs
+  number_fails first second b h is off = subst (λ t. PassesTo f at vs (if t then first else second) vs) off (number_tested first second b h is)
 
 -- a slot that the function has
 pub slot_there : (x n : ℕ) → nat_lt x n ≡ true → x < n

@@ -44,7 +44,7 @@ pub record Advances (p : Program) (self most n : ℕ) (a : Ask) (old new : Term)
   pub asks : (a ≡ asks_of.Nothing → ⊥) → sliced_from p self most 0 old ≡ record { ask = plain_ask a; end = new; steps = n }
 
 -- So many steps of a slice went on, the stack is in order, and the spare is the stack before them.
-pub record GoesOn (p : List (PlainItem ℕ)) (n : ℕ) (a : Ask) (old new spare : List PlainHeld) : Type 0 where
+pub record GoesSpared (p : List (PlainItem ℕ)) (n : ℕ) (a : Ask) (old new spare : List PlainHeld) : Type 0 where
   pub spare_is : spare ≡ old
   pub asks : a ≡ asks_of.Nothing
   pub fits : StackFits p new
@@ -52,5 +52,5 @@ pub record GoesOn (p : List (PlainItem ℕ)) (n : ℕ) (a : Ask) (old new spare 
   pub goes : (self : ℕ) → GoesIn (text_of p) self n (term_of p old) (term_of p new)
 
 abbrev pub BeginsSlice : List (PlainItem ℕ) → Begun → Journal → Ask → List PlainHeld → List PlainHeld → List PlainHeld → Type 0
-BeginsSlice p (begun.Goes n) j a old new spare = GoesOn p n a old new spare
+BeginsSlice p (begun.Goes n) j a old new spare = GoesSpared p n a old new spare
 BeginsSlice p (begun.Asks n) j a old new spare = AsksStill p max_steps n j a old new

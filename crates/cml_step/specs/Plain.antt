@@ -13,8 +13,8 @@ abbrev pub running : PlainItem ℕ → ℕ → List PlainValue → StackEntry
 running f at slots = call_at f at slots wait.Runs
 
 -- In one step it comes from one place to another, and its slots from these values to those.
-abbrev pub StepsTo : PlainItem ℕ → ℕ → List PlainValue → ℕ → List PlainValue → Type 0
-StepsTo f at old to new = (p : Program) (self : ℕ) (below : Term) → next p self (running f at old ∷ below) ≡ goes_on (running f to new ∷ below)
+abbrev pub PassesTo : PlainItem ℕ → ℕ → List PlainValue → ℕ → List PlainValue → Type 0
+PassesTo f at old to new = (p : Program) (self : ℕ) (below : Term) → next p self (running f at old ∷ below) ≡ goes_on (running f to new ∷ below)
 
 -- the same in this many steps
 abbrev pub RunsTo : ℕ → PlainItem ℕ → ℕ → List PlainValue → ℕ → List PlainValue → Type 0

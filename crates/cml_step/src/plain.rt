@@ -4,7 +4,7 @@ ghost use Rattle.std.specs.Prelude.{◌≡◌, ◌<◌, ◌≤◌, ℕ, List, �
 ghost use Rattle.cml_check.specs.{Syntax.{name_at, expr_map, value as plain_source_value}, Names.{AreDistinct}, InOrder.{FunctionFits, arities, expr_fits}};
 ghost use Rattle.cml_check.specs.{Layout.{left}, Ops.{flat_expr, Sets, Tests, OpFollows, op_fits}};
 ghost use Rattle.cml_check.specs.{Follows.{Follows, instr_fits}, InstrViews.{plain_instr}};
-ghost use Rattle.cml_step.specs.{Agrees.{value_agrees, all_agree}, Variables.{bound, value_of}, Terms.{Program, Term}, Plain.{StepsTo, RunsTo}};
+ghost use Rattle.cml_step.specs.{Agrees.{value_agrees, all_agree}, Variables.{bound, value_of}, Terms.{Program, Term}, Plain.{PassesTo, RunsTo}};
 ghost use Rattle.cml_step.specs.{Calls.{entry_for, entry_of, text_of, variables_of, statements_at, IsReady, RunsOn}, Steps.{goes_on}, Slices.{GoesIn}};
 ghost use Rattle.cml_step.specs.{Stacks.{CallFits}, Undone.{unset, HasNotes}};
 ghost use Rattle.cml_step.specs.Evaluate as meaning;
@@ -61,7 +61,7 @@ fn flat_set(
     requires slot { slot < length f.now.names }
     requires fits { expr_fits (arities program.now) (length f.now.names) (flat_expr e.now) ≡ true }
     requires distinct { AreDistinct f.now.names }
-    ensures goes { IfSome result (λ to. StepsTo f.now at slots.old to slots.new) }
+    ensures goes { IfSome result (λ to. PassesTo f.now at slots.old to slots.new) }
     ensures agree { (fs : List ℕ) → all_agree fs slots.old ≡ true
         → all_agree fs slots.new ≡ true }
     ensures noted { noting ≡ true → unset sets.new.items slots.new
@@ -90,7 +90,7 @@ fn flat_test(
         Tests left_at (flat_expr e.now) first second (left_at at) }
     requires fits { expr_fits (arities program.now) (length f.now.names) (flat_expr e.now) ≡ true }
     requires distinct { AreDistinct f.now.names }
-    ensures { IfSome result (λ to. StepsTo f.now at slots.now to slots.now) }
+    ensures { IfSome result (λ to. PassesTo f.now at slots.now to slots.now) }
 {
     let holds = flat_truth(slots, e)?;
     if holds {
@@ -114,7 +114,7 @@ fn op_step(
     requires here { let left_at = left f.now.body in OpFollows left_at op.now (left_at at) }
     requires fits { op_fits (arities program.now) (length f.now.names) op.now ≡ true }
     requires distinct { AreDistinct f.now.names }
-    ensures goes { IfSome result (λ to. StepsTo f.now at slots.old to slots.new) }
+    ensures goes { IfSome result (λ to. PassesTo f.now at slots.old to slots.new) }
     ensures agree { (fs : List ℕ) → all_agree fs slots.old ≡ true
         → all_agree fs slots.new ≡ true }
     ensures noted { noting ≡ true → unset sets.new.items slots.new

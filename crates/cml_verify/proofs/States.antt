@@ -1,5 +1,5 @@
 -- From what is kept to the states that are counted.
-use Rattle.std.proofs.Common.{◌≡◌, ℕ, zero, suc, true, false, Bool, List, [], ◌∷◌, length, map, Option, None, Some, slice_get, Contains, refl, ap, sym, subst, ◌∙◌, true≢false}
+use Rattle.std.proofs.Common.{◌≡◌, ℕ, zero, suc, ◌+◌, true, false, Bool, List, [], ◌∷◌, length, map, Option, None, Some, slice_get, Contains, refl, ap, sym, subst, ◌∙◌, true≢false}
 use Rattle.std.specs.Prelude.{option_map}
 use Rattle.std.specs.List.{All, AllByRecursion, IsDistinct}
 use Rattle.std.proofs.lemmas.List.{length-map}
@@ -8,7 +8,7 @@ use Rattle.cml_check.specs.Syntax.{PlainItem}
 use Rattle.cml_schedule.specs.declared.item.Item.{Item}
 use Rattle.cml_step.specs.Calls.{text_of}
 use Rattle.cml_hub.specs.Runs.{Run, stands}
-use Rattle.cml_search.specs.Systems.{System, run, IsReached}
+use Rattle.cml_search.specs.Systems.{System, run}
 use Rattle.cml_search.specs.Searches.{IsSought}
 use Rattle.cml_search.proofs.Places.{place_of, all_at, mapped_has}
 use Rattle.cml_verify.specs.Cores.{Core, past, core_of, program_system}
@@ -87,12 +87,16 @@ module _ (p : List (PlainItem ℕ)) (with_output : Bool) (keys : List PlainKept)
       let b = mapped_behind state_kept keys i s h in
       subst (λ (x : RunState). AreThreadsIn p x.machines) b.2 (all_at (λ k. AreThreadsIn p k.machines) keys i b.0 all b.1))
 
-  reached : All (IsReached y) cores → All (λ s. (schedule : List Item) × StandsSo p with_output schedule s) states
-  reached all = all_from (λ s. (schedule : List Item) × StandsSo p with_output schedule s) states (λ i s h.
+  -- a schedule leads to each, of at most one item more than so many
+  abbrev pub AreLedTo : Option ℕ → Type 0
+  AreLedTo most = (k : ℕ) (c : Core) → slice_get cores k ≡ Some c → (items : List Item) × (run y y.start items ≡ Some c) × IsWithin (option_map (λ m. m + 1) most) items
+
+  reached : (most : Option ℕ) → AreLedTo most → All (λ s. (schedule : List Item) × StandsSo p with_output schedule s × IsWithin (option_map (λ m. m + 1) most) schedule) states
+  reached most led = all_from (λ s. (schedule : List Item) × StandsSo p with_output schedule s × IsWithin (option_map (λ m. m + 1) most) schedule) states (λ i s h.
       let b = mapped_behind state_kept keys i s h in
       let at : slice_get cores i ≡ Some (core_kept p b.0) = slice_get-map (core_kept p) keys i ∙ ap (option_map (core_kept p)) b.1 in
-      let r = all_at (IsReached y) cores i (core_kept p b.0) all at in
-      (r.0, subst (StandsSo p with_output r.0) b.2 (stands_so r.0 b.0 r.1)))
+      let r = led i (core_kept p b.0) at in
+      (r.0, subst (StandsSo p with_output r.0) b.2 (stands_so r.0 b.0 r.1), r.2))
 
   module _ (most : Option ℕ) (all : (items : List Item) (c : Core) → IsWithin most items → IsSought y false items c → Contains cores c) where
     each : (schedule : List Item) (r : Run) → IsWithin most schedule → stands (text_of p) schedule ≡ Some r → (s : RunState) × Contains states s × StandsSo p with_output schedule s
@@ -104,5 +108,5 @@ module _ (p : List (PlainItem ℕ)) (with_output : Bool) (keys : List PlainKept)
         let kept : Contains keys b.0 = (has.0, slice_get_within keys has.0 b.0 b.1, get_or_from_slice_get keys has.0 b.0 b.0 b.1) in
         (state_kept b.0, mapped_has state_kept keys b.0 kept, stands_so schedule b.0 (leads ∙ ap (λ c. Some c) (sym b.2)))
 
-    pub are_counted : IsDistinct (is_same state_code) keys → All (λ k. AreThreadsIn p k.machines) keys → All (IsReached y) cores → (n : ℕ) → n ≡ length keys → CountsStates p with_output most n
-    are_counted d l r n e = (states, record { different = different d; placed = placed l; reached = reached r; each = each }, length-map keys state_kept ∙ sym e)
+    pub are_counted : IsDistinct (is_same state_code) keys → All (λ k. AreThreadsIn p k.machines) keys → AreLedTo most → (n : ℕ) → n ≡ length keys → CountsStates p with_output most n
+    are_counted d l r n e = (states, record { different = different d; placed = placed l; reached = reached most r; each = each }, length-map keys state_kept ∙ sym e)

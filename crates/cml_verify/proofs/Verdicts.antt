@@ -1,7 +1,7 @@
 -- From what is kept to the ends that are told.
 use Rattle.std.proofs.Common.{◌≡◌, ℕ, zero, suc, ◌+◌, ◌<◌, ◌≤◌, Bool, true, false, List, [], ◌∷◌, ◌++◌, length, map, Option, None, Some, slice_get, Contains, ◌⊎◌, inl, inr}
 use Rattle.std.proofs.Common.{refl, ap, sym, subst, ◌∙◌, arith, true≢false, length-append}
-use Rattle.std.specs.Prelude.{option_map, IfSome}
+use Rattle.std.specs.Prelude.{option_map, IfSome, IfNone, IsTrue}
 use Rattle.std.specs.List.{All}
 use Rattle.std.proofs.lemmas.List.Elements.{All-nil, All-cons}
 use Rattle.std.proofs.lemmas.Option.{slice_get-map, slice_get_within, get_or_from_slice_get, same_Some}
@@ -22,10 +22,16 @@ pub all_from : {X : Type 0} (P : X → Type 0) (xs : List X) → ((i : ℕ) (x :
 all_from P [] h = All-nil P
 all_from P (x ∷ xs) h = All-cons P x xs (h 0 x refl) (all_from P xs (λ i y e. h (suc i) y e))
 
--- a search stops only where there are more states than its bound
-pub stops_late : (most : Option ℕ) (bound states n : ℕ) (whole : Bool) → IfSome most (λ m. whole ≡ false) → (whole ≡ false → bound < n) → states ≡ n → IfSome most (λ m. bound < states)
-stops_late None bound states n whole h full e = tt
-stops_late (Some m) bound states n whole h full e = omega (arith, full h, e)
+-- a search stops only at the first state beyond its bound
+pub stops_late : (most : Option ℕ) (bound states n : ℕ) (whole : Bool) → IfSome most (λ m. whole ≡ false) → (whole ≡ false → bound < n) → n ≤ bound + 1 → states ≡ n
+    → IfSome most (λ m. states ≡ bound + 1)
+stops_late None bound states n whole h full over e = tt
+stops_late (Some m) bound states n whole h full over e = omega (arith, full h, over, e)
+
+-- and a search that did not stop has found no such state
+pub ends_within : (most : Option ℕ) (bound states n : ℕ) (whole : Bool) → IfNone most (IsTrue whole) → (IsTrue whole → n ≤ bound) → states ≡ n → IfNone most (states ≤ bound)
+ends_within None bound states n whole h bounded e = omega (arith, bounded h, e)
+ends_within (Some m) bound states n whole h bounded e = tt
 
 -- no schedule yet
 pub told_none : (y : System Core Item) (states : List Core) (places : List ℕ) (schedules : List (List Item)) → schedules ≡ [] → AreSchedulesTo y states places 0 schedules

@@ -1,5 +1,5 @@
 -- What is promised of a search of every schedule of a program.
-use Rattle.std.specs.Prelude.{◌≡◌, ℕ, ◌<◌, ◌≤◌, Bool, true, false, List, length, map, Option, Some, None, IfSome, slice_get, Contains}
+use Rattle.std.specs.Prelude.{◌≡◌, ℕ, ◌+◌, ◌≤◌, Bool, true, false, List, length, map, Option, Some, None, IfSome, IfNone, option_map, slice_get, Contains}
 use Rattle.std.specs.List.{All}
 use Rattle.cml_value.specs.Value.{PlainFunction}
 use Rattle.cml_check.specs.Syntax.{PlainItem}
@@ -69,12 +69,12 @@ pub record StandsSo (p : List (PlainItem ℕ)) (with_output : Bool) (schedule : 
   pub faults : fault_count (text_of p) schedule ≡ s.faults
   pub printed : output_if with_output run.output ≡ s.printed
 
--- No two of these states are the same. The threads of each stand in the program. A schedule leads to each, and each schedule (of at most so
--- many items) leads to one of them.
+-- No two of these states are the same. The threads of each stand in the program. A schedule leads to each (of at most one item more than so
+-- many), and each schedule (of at most so many items) leads to one of them.
 pub record AreStates (p : List (PlainItem ℕ)) (with_output : Bool) (most : Option ℕ) (states : List RunState) : Type 0 where
   pub different : (j k : ℕ) (s : RunState) → slice_get states j ≡ Some s → slice_get states k ≡ Some s → j ≡ k
   pub placed : All (λ s. AreThreadsIn p s.machines) states
-  pub reached : All (λ s. (schedule : List Item) × StandsSo p with_output schedule s) states
+  pub reached : All (λ s. (schedule : List Item) × StandsSo p with_output schedule s × IsWithin (option_map (λ m. m + 1) most) schedule) states
   pub each : (schedule : List Item) (run : Run) → IsWithin most schedule → stands (text_of p) schedule ≡ Some run
       → (s : RunState) × Contains states s × StandsSo p with_output schedule s
 
@@ -83,9 +83,10 @@ abbrev pub CountsStates : List (PlainItem ℕ) → Bool → Option ℕ → ℕ �
 CountsStates p with_output most n = (states : List RunState) × AreStates p with_output most states × (length states ≡ n)
 
 -- What is promised of the schedules that are told, of how many states there are, and of how many items at most the schedules had that were
--- examined (nothing: all were), where the search stops once it has found more states than its bound. The output counts, or not.
+-- examined (nothing: all were), where the search stops at the first state beyond its bound, and only there. The output counts, or not.
 pub record IsVerdict (p : List (PlainItem ℕ)) (with_output : Bool) (bound : ℕ) (most : Option ℕ) (told : List (List Item)) (states : ℕ) : Type 0 where
   pub each : All (HasEnd (text_of p) with_output) told
   pub all : EveryEndIsTold (text_of p) with_output most told
-  pub stopped : IfSome most (λ m. bound < states)
+  pub stopped : IfSome most (λ m. states ≡ bound + 1)
+  pub finished : IfNone most (states ≤ bound)
   pub counted : CountsStates p with_output most states

@@ -1,9 +1,9 @@
 //! Every schedule of a program.
 
-ghost use Rattle.std.specs.Prelude.{◌≡◌, ◌<◌, List, IfOk, IfSome, IsTrue, true, false, Contains, length, map};
+ghost use Rattle.std.specs.Prelude.{◌≡◌, ◌<◌, ◌+◌, ℕ, List, IfOk, IfSome, IfNone, IsTrue, Some, true, false, Contains, length, map, option_map, slice_get};
 ghost use Rattle.std.specs.List.{All};
 ghost use Rattle.cml_schedule.specs.declared.item.Item.{Item};
-ghost use Rattle.cml_search.specs.{Systems.{IsReached}, Searches.{IsSearch, IsSought}};
+ghost use Rattle.cml_search.specs.{Systems.{IsReached, run}, Searches.{IsSearch, IsSought}};
 ghost use Rattle.cml_step.specs.Calls.{text_of};
 ghost use Rattle.cml_verify.specs.{Cores.{Core, program_system}, Ends.{AreSchedulesTo}, Kept.{core_kept}, Placed.{AreThreadsIn}, Verdicts.{IsWithin, IsVerdict}};
 
@@ -24,7 +24,8 @@ pub struct Verdict {
     pub ends: Vec<Vec<Item>>,
     /// How many states were found, no two of them the same.
     pub states: usize,
-    /// Nothing, if every schedule was examined. Else the bound was reached, and the schedules of at most so many items were examined.
+    /// Nothing, if every schedule was examined. Else the search stopped at the first state beyond the bound, and the schedules of at most so many
+    /// items were examined.
     pub reach: Option<usize>,
 }
 
@@ -57,7 +58,11 @@ fn reach_of(system: &Schedules, found: &Found<Kept, Item>) -> Option<usize>
     requires all { IsTrue found.now.whole → (c : Core) → IsReached (program_system (text_of system.now.program) system.now.with_output) c → Contains (map (core_kept system.now.program) found.now.kept.keys) c }
     ensures all { (items : List Item) (c : Core) → IsWithin result items → IsSought (program_system (text_of system.now.program) system.now.with_output) false items c
         → Contains (map (core_kept system.now.program) found.now.kept.keys) c }
+    ensures led { (k : ℕ) (c : Core) → slice_get (map (core_kept system.now.program) found.now.kept.keys) k ≡ Some c → (items : List Item)
+        × (run (program_system (text_of system.now.program) system.now.with_output) (program_system (text_of system.now.program) system.now.with_output).start items ≡ Some c)
+        × IsWithin (option_map (λ m. m + 1) result) items }
     ensures stopped { IfSome result (λ most. found.now.whole ≡ false) }
+    ensures whole { IfNone result (IsTrue found.now.whole) }
 {
     if found.is_whole() {
         return None;

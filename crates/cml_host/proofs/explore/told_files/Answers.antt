@@ -11,8 +11,8 @@ loop-class-preserved c =
     let few = seen_few c.loop-class.seen _ i c.loop-class.invariant.bad c.loop-class.invariant.good in
     rw c.and_one-seen.ensures
     (record {
-      files = told_next c.args.start.now c.args.budget c.args.program.now c.args.classes.now c.loop-class.seen c.args.told.now i _ _
-          c.loop-class.files.items c.in_ok-file.file c.push.new.self.items _ c.loop-class-test.true refl
+      files = told_next c.args.start.now c.args.budget c.args.program.now c.args.classes.now c.loop-class.seen c.args.told.now i c.class-item.result _
+          c.loop-class.files.items c.in_ok-file.file c.push.new.self.items _ c.loop-class-test.true c.class-item.is
           (rw c.and_one-seen.ensures at c.in_ok-file.ensures) c.in_ok-push.ensures.items c.loop-class.invariant.files;
       bad = few.0;
       good = few.1;

@@ -1,4 +1,4 @@
-use Rattle.std.proofs.Common.{[], ◌∷◌, map, ap, sym, subst, ◌∙◌, append-nil}
+use Rattle.std.proofs.Common.{[], ◌∷◌, length, map, ap, sym, subst, ◌∙◌, append-nil, length-append, arith}
 use Rattle.indexmap.proofs.CallerLemmas.{Contains-insert_key}
 use Rattle.cml_search.specs.Searches.{Keeps}
 use Rattle.cml_search.proofs.Places.{came_last, was_there, mapped_last, mapped_has}
@@ -39,6 +39,13 @@ returns-in_ok-push-clause-longer g c =
       mapped_last f keys c.insert_full.new.self.keys c.in_ok-next.next
           (came_last g.Y.Kept.PartialEq.eq keys c.insert_full.new.self.keys c.in_ok-next.next c.in_ok-new.new c.in_ok-new.ensures.added c.in_ok-new.ensures.keys c.if-new.true),
     )
+
+pub returns-in_ok-push-clause-one : goal.returns-in_ok-push-clause-one
+returns-in_ok-push-clause-one g c =
+    let keys = c.args.found.now.kept.keys in
+    let after = c.insert_full.new.self.keys in
+    let came = came_last g.Y.Kept.PartialEq.eq keys after c.in_ok-next.next c.in_ok-new.new c.in_ok-new.ensures.added c.in_ok-new.ensures.keys c.if-new.true in
+    omega (arith, ap length came, length-append keys (c.in_ok-next.next ∷ []))
 
 pub returns-in_ok-push-clause-broad : goal.returns-in_ok-push-clause-broad
 returns-in_ok-push-clause-broad g c =
@@ -81,6 +88,13 @@ returns-else-new-clause-leads g c =
           (map f c.insert_full.new.self.keys)
           (mapped_has f c.insert_full.new.self.keys c.in_ok-next.next (rw c.in_ok-new.ensures.keys (Contains-insert_key g.Y.Kept.PartialEq.eq g.met.Y.System.same keys c.in_ok-next.next))),
     )
+
+pub returns-else-new-clause-one : goal.returns-else-new-clause-one
+returns-else-new-clause-one g c =
+    let keys = c.args.found.now.kept.keys in
+    let after = c.insert_full.new.self.keys in
+    let same = was_there g.Y.Kept.PartialEq.eq keys after c.in_ok-next.next c.in_ok-new.new c.in_ok-new.ensures.added c.in_ok-new.ensures.keys c.if-new.false in
+    omega (arith, ap length same)
 
 pub returns-else-new-clause-broad : goal.returns-else-new-clause-broad
 returns-else-new-clause-broad g c =

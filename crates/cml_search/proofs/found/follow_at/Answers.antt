@@ -34,6 +34,9 @@ returns-clause-bounded g c = c.in_ok-all.ensures.bounded
 pub returns-clause-full : goal.returns-clause-full
 returns-clause-full g c = c.in_ok-all.ensures.full
 
+pub returns-clause-over : goal.returns-clause-over
+returns-clause-over g c = c.in_ok-all.ensures.over
+
 pub returns-clause-search : goal.returns-clause-search
 returns-clause-search g c =
     let y = g.Y.System.rules c.args.system.now in

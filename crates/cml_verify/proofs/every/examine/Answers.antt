@@ -2,7 +2,7 @@ use Rattle.std.proofs.Common.{length, map, subst, arith}
 use Rattle.std.specs.List.{All}
 use Rattle.cml_step.specs.Calls.{text_of}
 use Rattle.cml_verify.specs.{Cores.{program_system}, Kept.{PlainKept, core_kept}, Ends.{AreSchedulesTo}, Placed.{AreThreadsIn}}
-use Rattle.cml_verify.proofs.Verdicts.{each_ends, every_end, stops_late}
+use Rattle.cml_verify.proofs.Verdicts.{each_ends, every_end, stops_late, ends_within}
 use Rattle.cml_verify.proofs.States.{are_counted}
 use Rattle.cml_verify.proofs.every.examine.Goals as goal
 
@@ -29,9 +29,13 @@ returns c =
     record {
       each = each_ends p o keys places told lead (rw c.kept-kept.ensures.kept at c.in_ok-places.ensures.each);
       all = every_end p o keys places told lead most all (rw c.kept-kept.ensures.kept at c.in_ok-places.ensures.all);
-      stopped = stops_late most c.args.bound c.count_of-states.result (length keys) c.in_ok-found.found.whole c.reach_of-reach.ensures.stopped c.in_ok-found.ensures.full c.count_of-states.ensures;
+      stopped =
+          stops_late most c.args.bound c.count_of-states.result (length keys) c.in_ok-found.found.whole c.reach_of-reach.ensures.stopped c.in_ok-found.ensures.full c.in_ok-found.ensures.over
+          c.count_of-states.ensures;
+      finished =
+          ends_within most c.args.bound c.count_of-states.result (length keys) c.in_ok-found.found.whole c.reach_of-reach.ensures.whole c.in_ok-found.ensures.bounded c.count_of-states.ensures;
       counted =
           are_counted p o keys most all c.kept-kept.ensures.once
           (subst (All (λ (one : PlainKept). AreThreadsIn p one.machines)) c.kept-kept.ensures.kept (c.all_placed.ensures (grind arith)))
-          (rw c.in_ok-again.ensures at c.in_ok-found.ensures.search.keeps.reached) c.count_of-states.result c.count_of-states.ensures;
+          (rw c.in_ok-again.ensures at c.reach_of-reach.ensures.led) c.count_of-states.result c.count_of-states.ensures;
     }
