@@ -87,12 +87,7 @@ pub(crate) fn set_slot(
 
 /// The same, where the slots are seen as a slice: so they are for many sets, one after another.
 #[inline(always)]
-pub(crate) fn set_in(
-    slots: &mut [Value],
-    slot: usize,
-    value: Value,
-    sets: &mut Vec<Noted>,
-) -> bool
+pub(crate) fn set_in(slots: &mut [Value], slot: usize, value: Value, sets: &mut Vec<Noted>) -> bool
     requires { slot < length slots.old }
     ensures set { result ≡ true → slots.new ≡ slice_set slots.old slot value }
     ensures noted { plain_unset sets.new.items slots.new ≡ plain_unset sets.old.items slots.old }
