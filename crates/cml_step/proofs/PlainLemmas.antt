@@ -1,7 +1,7 @@
 -- Steps that set a slot to a number, or test numbers.
 use Rattle.std.specs.Prelude.{if◌then◌else◌}
-use Rattle.std.proofs.Common.{◌≡◌, ℕ, ℤ, ◌<◌, ◌⊎◌, inl, inr, Bool, true, false, nat_lt, List, ◌∷◌, length, set, refl, ap, sym, ◌∙◌, subst, arith, Ok}
-use Rattle.cml_value.specs.Value.{PlainValue, int, truth}
+use Rattle.std.proofs.Common.{◌≡◌, ℕ, ◌<◌, ◌⊎◌, inl, inr, Bool, true, false, nat_lt, List, ◌∷◌, length, set, refl, ap, sym, ◌∙◌, subst, arith, Ok}
+use Rattle.cml_value.specs.Value.{PlainValue, truth}
 use Rattle.cml_check.specs.Syntax.{PlainExpr, expr_map, name_at, PlainItem, let_be, set_to, value}
 use Rattle.cml_check.specs.Names.{AreDistinct}
 use Rattle.cml_check.specs.InOrder.{expr_fits}
@@ -10,7 +10,7 @@ use Rattle.cml_check.specs.Ops.{Sets, Tests}
 use Rattle.cml_step.specs.declared.call.Call.{Call}
 use Rattle.cml_step.specs.declared.call.Wait.{Wait}
 use Rattle.cml_step.specs.declared.call.Wait.TheVariants as wait
-use Rattle.cml_step.specs.Agrees.{all_agree}
+use Rattle.cml_step.specs.Agrees.{all_agree, value_agrees}
 use Rattle.cml_step.specs.Calls.{call_at, statements_at, chosen, RunsOn}
 use Rattle.cml_step.specs.Evaluate.{evaluate}
 use Rattle.cml_step.specs.Plain.{running, PassesTo, RunsTo}
@@ -28,15 +28,15 @@ module _ (f : PlainItem ℕ) (fs : List ℕ) (at : ℕ) (vs : List PlainValue) (
       ap (λ r. r >>= (λ w. goes_on (call (statements_at f to) (assigned (bound f.names vs) (name_at f.names slot) w) runs ∷ below))) (evaluate_named f.names vs d fs e fits ∙ is)
       ∙ ap (λ ws. goes_on (call (statements_at f to) ws runs ∷ below)) (bound_set f.names vs slot v d named there)
 
-  -- a slot that is set to a number
-  pub number_set : (slot to : ℕ) (z : ℤ) (ws : List PlainValue) → Sets (left f.body) slot e to (left f.body at) → slot < length f.names → slot < length vs →
-      evaluate (slot_value vs) e ≡ Ok (int z) → ws ≡ set vs slot (int z) → PassesTo f at vs to ws
-  number_set slot to z ws (inl h) named there is same = λ p self below.
+  -- a slot that is set
+  pub number_set : (slot to : ℕ) (v : PlainValue) (ws : List PlainValue) → Sets (left f.body) slot e to (left f.body at) → slot < length f.names → slot < length vs →
+      evaluate (slot_value vs) e ≡ Ok v → ws ≡ set vs slot v → PassesTo f at vs to ws
+  number_set slot to v ws (inl h) named there is same = λ p self below.
       at_statement p self f (bound f.names vs) below at (let_be slot (value e)) (left f.body to) h
-      ∙ set_step p self slot to (int z) below named there is ∙ ap (λ xs. goes_on (running f to xs ∷ below)) (sym same)
-  number_set slot to z ws (inr h) named there is same = λ p self below.
+      ∙ set_step p self slot to v below named there is ∙ ap (λ xs. goes_on (running f to xs ∷ below)) (sym same)
+  number_set slot to v ws (inr h) named there is same = λ p self below.
       at_statement p self f (bound f.names vs) below at (set_to slot e) (left f.body to) h
-      ∙ set_step p self slot to (int z) below named there is ∙ ap (λ xs. goes_on (running f to xs ∷ below)) (sym same)
+      ∙ set_step p self slot to v below named there is ∙ ap (λ xs. goes_on (running f to xs ∷ below)) (sym same)
 
   -- a test
   number_tested : (first second : ℕ) (b : Bool) → Tests (left f.body) e first second (left f.body at) → evaluate (slot_value vs) e ≡ Ok (truth b) →
@@ -60,9 +60,9 @@ module _ (f : PlainItem ℕ) (fs : List ℕ) (at : ℕ) (vs : List PlainValue) (
 pub slot_there : (x n : ℕ) → nat_lt x n ≡ true → x < n
 slot_there x n h = grind (arith, h)
 
--- a slot that is set to a number, among values that agree
-pub number_agrees : (fs : List ℕ) (vs ws : List PlainValue) (slot : ℕ) (z : ℤ) → ws ≡ set vs slot (int z) → all_agree fs vs ≡ true → all_agree fs ws ≡ true
-number_agrees fs vs ws slot z same h = ap (all_agree fs) same ∙ agree_set fs vs slot (int z) h refl
+-- a slot that is set to a value that agrees, among values that agree
+pub number_agrees : (fs : List ℕ) (vs ws : List PlainValue) (slot : ℕ) (v : PlainValue) → ws ≡ set vs slot v → value_agrees fs v ≡ true → all_agree fs vs ≡ true → all_agree fs ws ≡ true
+number_agrees fs vs ws slot v same g h = ap (all_agree fs) same ∙ agree_set fs vs slot v h g
 
 -- a call that runs on, and then on
 pub runs_on : {fs : List ℕ} {old mid new : Call} → RunsOn fs old mid → RunsOn fs mid new → RunsOn fs old new

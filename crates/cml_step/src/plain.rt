@@ -4,7 +4,7 @@ ghost use Rattle.std.specs.Prelude.{◌≡◌, ◌<◌, ◌≤◌, ℕ, List, �
 ghost use Rattle.cml_check.specs.{Syntax.{name_at, expr_map, value as plain_source_value}, Names.{AreDistinct}, InOrder.{FunctionFits, arities, expr_fits}};
 ghost use Rattle.cml_check.specs.{Layout.{left}, Ops.{flat_expr, Sets, Tests, OpFollows, op_fits}};
 ghost use Rattle.cml_check.specs.{Follows.{Follows, instr_fits}, InstrViews.{plain_instr}};
-ghost use Rattle.cml_step.specs.{Agrees.{value_agrees, all_agree}, Variables.{bound, value_of}, Terms.{Program, Term}, Plain.{PassesTo, RunsTo}};
+ghost use Rattle.cml_step.specs.{Agrees.{value_agrees, all_agree}, Variables.{bound, value_of, slot_value}, Terms.{Program, Term}, Plain.{PassesTo, RunsTo}};
 ghost use Rattle.cml_step.specs.{Calls.{entry_for, entry_of, text_of, variables_of, statements_at, IsReady, RunsOn}, Steps.{goes_on}, Slices.{GoesIn}};
 ghost use Rattle.cml_step.specs.{Stacks.{CallFits}, Undone.{unset, HasNotes}};
 ghost use Rattle.cml_step.specs.Evaluate as meaning;
@@ -43,6 +43,17 @@ fn set_number(
     true
 }
 
+// The number that a short expression is, as a value, where it is one and has no fault.
+#[inline(always)]
+fn flat_value(slots: &[Value], e: &Flat) -> Option<Value>
+    ensures gives { IfSome result (λ v.
+        meaning.evaluate (slot_value slots.now) (flat_expr e.now) ≡ Ok v) }
+    ensures agrees { IfSome result (λ v. (fs : List ℕ) → value_agrees fs v ≡ true) }
+{
+    let z = flat_int(slots, e)?;
+    Some(Value::new(ValueKind::Int(z)))
+}
+
 // The slot is given the number that the expression is. Returns the place after that; where that is not done nothing has changed.
 #[inline(always)]
 fn flat_set(
@@ -68,8 +79,8 @@ fn flat_set(
         ≡ unset sets.old.items slots.old }
     ensures stays { result ≡ None → slots.new ≡ slots.old }
 {
-    let z = flat_int(slots, e)?;
-    if !set_number(slots, slot, Value::new(ValueKind::Int(z)), sets, noting) {
+    let value = flat_value(slots, e)?;
+    if !set_number(slots, slot, value, sets, noting) {
         return None;
     }
     Some(next)

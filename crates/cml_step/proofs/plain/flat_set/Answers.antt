@@ -1,4 +1,4 @@
-use Rattle.std.proofs.Common.{ap, slice_set, ◌∙◌}
+use Rattle.std.proofs.Common.{ap, ◌∙◌}
 use Rattle.cml_check.specs.InOrder.{arities}
 use Rattle.cml_check.specs.Ops.{flat_expr}
 use Rattle.cml_step.specs.Agrees.{all_agree}
@@ -10,12 +10,11 @@ returns-clause-goes c =
     let set = c.set_number.ensures in
     let on = c.if-not-set_number.false in
     number_set c.args.f.now (arities c.args.program.now) c.args.at c.args.slots.now c.requires.distinct (flat_expr c.args.e.now) c.requires.fits
-    c.args.slot c.args.next c.in_ok-z.z c.set_number.new.slots c.requires.here c.requires.slot (set.there on) c.in_ok-z.ensures
-    (set.set on ∙ ap (λ v. slice_set c.args.slots.now c.args.slot v) c.new.ensures)
+    c.args.slot c.args.next c.in_ok-value.value c.set_number.new.slots c.requires.here c.requires.slot (set.there on) c.in_ok-value.ensures.gives (set.set on)
 
 pub returns-clause-agree : goal.returns-clause-agree
-returns-clause-agree c = λ fs h. number_agrees fs c.args.slots.now c.set_number.new.slots c.args.slot c.in_ok-z.z
-    (c.set_number.ensures.set c.if-not-set_number.false ∙ ap (λ v. slice_set c.args.slots.now c.args.slot v) c.new.ensures) h
+returns-clause-agree c = λ fs h. number_agrees fs c.args.slots.now c.set_number.new.slots c.args.slot c.in_ok-value.value
+    (c.set_number.ensures.set c.if-not-set_number.false) (c.in_ok-value.ensures.agrees fs) h
 
 pub returns-then-not-set_number-clause-agree : goal.returns-then-not-set_number-clause-agree
 returns-then-not-set_number-clause-agree c = λ fs h. ap (all_agree fs) (c.set_number.ensures.stays c.if-not-set_number.true) ∙ h

@@ -19,8 +19,8 @@ returns-in-Asks c =
       agrees = h.agrees;
     }
 
-pub returns-in-Goes : goal.returns-in-Goes
-returns-in-Goes c =
+pub returns-else-steps-eq0 : goal.returns-else-steps-eq0
+returns-else-steps-eq0 c =
     let p = c.args.program.now in
     let b = c.still.new in
     let h = runs_as p c.args.most b.journal b.asked c.args.stack.now b.stack c.in-Goes.is c.in-Some.ensures.begun in
@@ -54,11 +54,11 @@ returns-then-steps-eq0-clause-meant c =
     subst (λ (t : Term). IfOk c.one_step.result (λ n. Advances (text_of p) th c.args.most n d.asked t (term_of p d.stack)))
     (sym (goes_none (text_of p) th c.in-Goes.steps (term_of p c.args.stack.now) (term_of p b.stack) c.if-steps-eq0.true (h.goes th))) c.one_step.ensures.meant
 
-pub one_step-in-None-requires-clause-fits : goal.one_step-in-None-requires-clause-fits
-one_step-in-None-requires-clause-fits c = subst (StackFits c.args.program.now) (sym (c.still.ensures.stays c.in-None.is).0) c.requires.fits
+pub one_step-requires-in-None-clause-fits : goal.one_step-requires-in-None-clause-fits
+one_step-requires-in-None-clause-fits c = subst (StackFits c.args.program.now) (sym (c.still.ensures.stays c.in-None.is).0) c.requires.fits
 
-pub one_step-in-None-requires-clause-nothing : goal.one_step-in-None-requires-clause-nothing
-one_step-in-None-requires-clause-nothing c = (c.still.ensures.stays c.in-None.is).1 ∙ c.requires.nothing
+pub one_step-requires-in-None-clause-nothing : goal.one_step-requires-in-None-clause-nothing
+one_step-requires-in-None-clause-nothing c = (c.still.ensures.stays c.in-None.is).1 ∙ c.requires.nothing
 
 pub returns-in-None-clause-meant : goal.returns-in-None-clause-meant
 returns-in-None-clause-meant c =
