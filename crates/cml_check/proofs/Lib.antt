@@ -13,3 +13,4 @@ pub mod Laid
 pub mod Walk
 pub mod Fit
 pub mod Instrs
+pub mod OpLemmas

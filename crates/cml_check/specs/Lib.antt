@@ -23,3 +23,4 @@ pub mod Laws
 pub mod Layout
 pub mod InstrViews
 pub mod Follows
+pub mod Ops

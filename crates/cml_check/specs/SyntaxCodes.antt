@@ -54,7 +54,9 @@ unary_number unary_of.At = 11
 unary_number unary_of.After = 12
 
 abbrev pub unary_by : ℕ → Unary
-unary_by n = get_or (unary_of.Not ∷ unary_of.Fst ∷ unary_of.Snd ∷ unary_of.Always ∷ unary_of.Recv ∷ unary_of.IGet ∷ unary_of.MTake ∷ unary_of.MGet ∷ unary_of.MailRecv ∷ unary_of.PortRecv ∷ unary_of.Join ∷ unary_of.At ∷ unary_of.After ∷ []) n unary_of.Not
+unary_by n =
+    get_or (unary_of.Not ∷ unary_of.Fst ∷ unary_of.Snd ∷ unary_of.Always ∷ unary_of.Recv ∷ unary_of.IGet ∷ unary_of.MTake ∷ unary_of.MGet ∷
+    unary_of.MailRecv ∷ unary_of.PortRecv ∷ unary_of.Join ∷ unary_of.At ∷ unary_of.After ∷ []) n unary_of.Not
 
 pub unary_back : (x : Unary) → unary_by (unary_number x) ≡ x
 unary_back unary_of.Not = refl

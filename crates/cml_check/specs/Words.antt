@@ -107,9 +107,13 @@ abbrev pub all_words : List Word
 all_words =
     word.Fn ∷ word.Do ∷ word.Let ∷ word.Set ∷ word.If ∷ word.Tested tested.While ∷ word.Return ∷ word.Call ∷ word.Spawn ∷ word.Choose ∷ word.Wrap ∷ word.Guard ∷ word.WithNack ∷ word.MVar ∷
     word.Constant constant_of.True ∷ word.Constant constant_of.False ∷ word.Constant constant_of.Unit ∷ word.Constant constant_of.Never ∷
-    word.Unary unary_of.Not ∷ word.Unary unary_of.Fst ∷ word.Unary unary_of.Snd ∷ word.Unary unary_of.Always ∷ word.Unary unary_of.Recv ∷ word.Unary unary_of.IGet ∷ word.Unary unary_of.MTake ∷ word.Unary unary_of.MGet ∷ word.Unary unary_of.MailRecv ∷ word.Unary unary_of.PortRecv ∷ word.Unary unary_of.Join ∷ word.Unary unary_of.At ∷ word.Unary unary_of.After ∷
-    word.Binary binary_of.Plus ∷ word.Binary binary_of.Minus ∷ word.Binary binary_of.Times ∷ word.Binary binary_of.Less ∷ word.Binary binary_of.Equal ∷ word.Binary binary_of.Pair ∷ word.Binary binary_of.Send ∷ word.Binary binary_of.Swap ∷ word.Binary binary_of.MSwap ∷
-    word.Act act_of.Chan ∷ word.Act act_of.SwapChan ∷ word.Act act_of.IVar ∷ word.Act act_of.Mailbox ∷ word.Act act_of.Mchan ∷ word.Act act_of.Exit ∷ word.Act act_of.Yield ∷ word.Act act_of.OwnThread ∷ word.Act act_of.Now ∷
+    word.Unary unary_of.Not ∷ word.Unary unary_of.Fst ∷ word.Unary unary_of.Snd ∷ word.Unary unary_of.Always ∷
+    word.Unary unary_of.Recv ∷ word.Unary unary_of.IGet ∷ word.Unary unary_of.MTake ∷ word.Unary unary_of.MGet ∷
+    word.Unary unary_of.MailRecv ∷ word.Unary unary_of.PortRecv ∷ word.Unary unary_of.Join ∷ word.Unary unary_of.At ∷ word.Unary unary_of.After ∷
+    word.Binary binary_of.Plus ∷ word.Binary binary_of.Minus ∷ word.Binary binary_of.Times ∷ word.Binary binary_of.Less ∷
+    word.Binary binary_of.Equal ∷ word.Binary binary_of.Pair ∷ word.Binary binary_of.Send ∷ word.Binary binary_of.Swap ∷ word.Binary binary_of.MSwap ∷
+    word.Act act_of.Chan ∷ word.Act act_of.SwapChan ∷ word.Act act_of.IVar ∷ word.Act act_of.Mailbox ∷
+    word.Act act_of.Mchan ∷ word.Act act_of.Exit ∷ word.Act act_of.Yield ∷ word.Act act_of.OwnThread ∷ word.Act act_of.Now ∷
     word.ActOnOne one_of.Sync ∷ word.ActOnOne one_of.Port ∷ word.ActOnOne one_of.Copy ∷ word.ActOnOne one_of.Print ∷
     word.ActOnTwo two_of.IPut ∷ word.ActOnTwo two_of.MPut ∷ word.ActOnTwo two_of.Mail ∷ word.ActOnTwo two_of.Multicast ∷ []
 

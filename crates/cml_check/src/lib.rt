@@ -7,6 +7,7 @@ mod copy;
 mod effect;
 mod expression;
 mod fault;
+mod flat;
 mod head;
 mod instr;
 pub mod law;
@@ -22,6 +23,7 @@ mod word;
 
 pub use checker::check;
 pub use fault::{CheckFault, CheckKind};
+pub use flat::{Flat, Offer, Op, Told};
 pub use instr::Instr;
 pub use program::{Function, Prog};
 pub use size::Size;

@@ -3,8 +3,9 @@
 ghost use Rattle.std.specs.Prelude.{◌≡◌, ◌<◌, ◌≤◌, ℕ, List, IfOk, IfSome, MatchOption, Some, true, codes, length, map, slice_get, slice_index_or};
 ghost use Rattle.std.specs.String.{string_bytes};
 ghost use Rattle.cml_check.specs.{Heads.{numbered, takes}, InOrder.{InOrder, IsProgram, FunctionFits, arities, names_of}, Sizes.{size_of, IsWithinSize}};
-ghost use Rattle.cml_check.specs.{Syntax.{no_stmts}, Layout.{left}, Follows.{Follows, instr_fits}, InstrViews.{plain_instr}};
+ghost use Rattle.cml_check.specs.{Syntax.{no_stmts}, Layout.{left}, Follows.{Follows, instr_fits}, InstrViews.{plain_instr}, Ops.{OpFollows, op_fits}};
 
+use crate::flat::{Op, shorts};
 use crate::instr::Instr;
 use crate::lay::lay;
 use crate::size::Size;
@@ -21,6 +22,7 @@ pub struct Function {
     pub(crate) arity: u32,
     pub(crate) body: Block,
     code: Vec<Instr>,
+    ops: Vec<Op>,
 }
 
 // Written out, so that how the parts are dropped is proved once, and whoever drops one calls this.
@@ -32,11 +34,13 @@ impl Drop for Function {
             arity: _,
             body,
             code,
+            ops,
         } = self;
         drop(name);
         drop(names);
         drop(body);
         drop(code);
+        drop(ops);
     }
 }
 
@@ -56,9 +60,10 @@ impl Model for Function {
     } };
 
     ghost use Rattle.std.specs.Prelude.{◌≡◌};
-    ghost use Rattle.cml_check.specs.{InstrViews.{plain_instr}, Layout.{code_of}};
+    ghost use Rattle.cml_check.specs.{InstrViews.{plain_instr}, Layout.{code_of}, Ops.{AreShort}};
 
-    ghost invariant = { λ a. map plain_instr a.code.items ≡ code_of a.body };
+    ghost invariant = { λ a. (map plain_instr a.code.items ≡ code_of a.body)
+        × AreShort (code_of a.body) a.ops.items };
 }
 
 impl Function {
@@ -78,12 +83,14 @@ impl Function {
         }) }
     {
         let code = lay(alloc, &body)?;
+        let ops = shorts(alloc, code.as_slice())?;
         Ok(Function {
             name,
             names,
             arity,
             body,
             code,
+            ops,
         })
     }
 
@@ -103,6 +110,21 @@ impl Function {
         } else {
             None
         }
+    }
+
+    /// The same instruction in its short form.
+    #[inline(always)]
+    #[tactic(auto, using(crate::proofs::Instrs::op_follows, crate::proofs::Instrs::op_fit))]
+    pub fn op(&self, at: usize) -> Option<&Op>
+        ensures follows { let left_at = left self.now.body in
+            IfSome result (λ o. OpFollows left_at o.now (left_at at)) }
+        ensures fits { (arities : List ℕ) → FunctionFits arities self.now →
+            IfSome result (λ o. op_fits arities (length self.now.names) o.now ≡ true) }
+    {
+        if at >= self.ops.len() {
+            return None;
+        }
+        Some(&self.ops[at])
     }
 }
 

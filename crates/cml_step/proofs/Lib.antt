@@ -10,6 +10,7 @@ pub mod StackLemmas
 pub mod UndoLemmas
 pub mod SliceLemmas
 pub mod QuietLemmas
+pub mod PlainLemmas
 pub mod QuickLemmas
 pub mod SyncLemmas
 pub mod AwaitLemmas

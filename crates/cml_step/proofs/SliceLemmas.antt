@@ -130,22 +130,54 @@ plus_none n = omega arith
 none_plus : (n : ℕ) → 0 + n ≡ n
 none_plus n = omega arith
 
+none_less : (n : ℕ) → n ≡ n - 0
+none_less n = omega arith
+
+-- a slice that begins with this many steps which go on, wherever it ends
+pub slice_goes : (p : Program) (self most n : ℕ) (t u : Term) → GoesIn p self n t u → n ≤ most → sliced_from p self most 0 t ≡ sliced_from p self (most - n) n u
+slice_goes p self most n t u goes within =
+    ap (λ k. sliced_from p self k 0 t) (none_less most)
+    ∙ slice_skips p self most n 0 t u goes (omega (arith, within))
+    ∙ ap (λ m. sliced_from p self (most - m) m u) (none_plus n)
+
+-- the same, where the step after them asks
+pub slice_then_asks : (p : Program) (self most n : ℕ) (t u v : Term) (a : Ask) → GoesIn p self n t u → n < most → next p self u ≡ asks (plain_ask a) v → (a ≡ asks_of.Nothing → ⊥) →
+    sliced_from p self most 0 t ≡ record { ask = plain_ask a; end = v; steps = n + 1 }
+slice_then_asks p self most n t u v a goes lower step something = slice_goes p self most n t u goes (omega (arith, lower)) ∙ slice_asks p self most n u v a lower step something
+
+-- no step at all
+pub goes_none : (p : Program) (self n : ℕ) (t u : Term) → n ≡ 0 → GoesIn p self n t u → t ≡ u
+goes_none p self n t u none goes = subst (λ k. GoesIn p self k t u) none goes
+
+-- a slice whose first step asks, or goes on
+pub slice_first_asks : (p : Program) (self most : ℕ) (t u : Term) (a : Ask) → 0 < most → next p self t ≡ asks (plain_ask a) u → (a ≡ asks_of.Nothing → ⊥) →
+    sliced_from p self most 0 t ≡ record { ask = plain_ask a; end = u; steps = 1 }
+slice_first_asks p self most t u a some step something = ap (λ k. sliced_from p self k 0 t) (none_less most) ∙ slice_asks p self most 0 t u a some step something
+
+pub slice_first_on : (p : Program) (self most : ℕ) (t u : Term) (a : Ask) → 0 < most → next p self t ≡ asks (plain_ask a) u → a ≡ asks_of.Nothing →
+    sliced_from p self most 0 t ≡ sliced_from p self (most - 1) 1 u
+slice_first_on p self most t u a some step none =
+    ap (λ k. sliced_from p self k 0 t) (none_less most) ∙ slice_on p self most 0 t u some (subst (λ (b : Ask). next p self t ≡ asks (plain_ask b) u) none step)
+
+-- what a slice comes to, where this many steps were taken before
+pub slice_after : (p : Program) (self left n k : ℕ) (t e : Term) (a : PlainAsk) → sliced_from p self left 0 t ≡ record { ask = a; end = e; steps = k } →
+    sliced_from p self left n t ≡ record { ask = a; end = e; steps = n + k }
+slice_after p self left n k t e a rest = ap (λ m. sliced_from p self left m t) (plus_none n) ∙ slice_later p self left n 0 t ∙ ap (later n) rest
+
 -- a slice that begins with this many steps which go on, and what is left of it comes to this
 pub slice_rest : (p : Program) (self n k : ℕ) (t u e : Term) (a : PlainAsk) → GoesIn p self n t u → n ≤ max_steps → sliced_from p self (1000 - n) 0 u ≡ record { ask = a; end = e; steps = k } →
     sliced p self t ≡ record { ask = a; end = e; steps = n + k }
-slice_rest p self n k t u e a goes within rest =
-    slice_skips p self 1000 n 0 t u goes within
-    ∙ ap (λ m. sliced_from p self (1000 - m) m u) (none_plus n)
-    ∙ ap (λ m. sliced_from p self (1000 - n) m u) (plus_none n)
-    ∙ slice_later p self (1000 - n) n 0 u ∙ ap (later n) rest
+slice_rest p self n k t u e a goes within rest = slice_goes p self 1000 n t u goes within ∙ slice_after p self (1000 - n) n k u e a rest
 
--- the same, where the step after them asks
-pub slice_then_asks : (p : Program) (self n : ℕ) (t u v : Term) (a : Ask) → GoesIn p self n t u → n < max_steps → next p self u ≡ asks (plain_ask a) v → (a ≡ asks_of.Nothing → ⊥) →
-    sliced p self t ≡ record { ask = plain_ask a; end = v; steps = n + 1 }
-slice_then_asks p self n t u v a goes lower step something =
-    slice_skips p self 1000 n 0 t u goes (omega (arith, lower))
-    ∙ ap (λ m. sliced_from p self (1000 - m) m u) (none_plus n)
-    ∙ slice_asks p self 1000 n u v a lower step something
+-- the same steps, where so many were taken before
+pub slice_moves : (p : Program) (self most n m : ℕ) (t u : Term) → sliced_from p self (most - n) 0 t ≡ sliced_from p self (most - n - m) m u →
+    sliced_from p self (most - n) n t ≡ sliced_from p self (most - (n + m)) (n + m) u
+slice_moves p self most n m t u rest =
+    ap (λ k. sliced_from p self (most - n) k t) (plus_none n) ∙ slice_later p self (most - n) n 0 t ∙ ap (later n) rest
+    ∙ sym (slice_later p self (most - n - m) n m u) ∙ ap (λ k. sliced_from p self k (n + m) u) (fewer_left most n m)
+  where
+    fewer_left : (most n m : ℕ) → most - n - m ≡ most - (n + m)
+    fewer_left most n m = omega arith
 
 -- a slice takes no more steps than are left
 pub slice_within : (p : Program) (self left k : ℕ) (t e : Term) (a : PlainAsk) → sliced_from p self left 0 t ≡ record { ask = a; end = e; steps = k } → k ≤ left

@@ -11,7 +11,7 @@ use Rattle.cml_step.specs.Asks.{PlainAsk}
 use Rattle.cml_step.specs.Calls.{entry_of, text_of}
 use Rattle.cml_step.specs.Machines.{PlainHeld, plain_held}
 use Rattle.cml_step.specs.Machines as held
-use Rattle.cml_step.specs.Shared.{topped, called}
+use Rattle.cml_step.specs.Shared.{topped}
 use Rattle.cml_step.specs.Stacks.{CallFits, StackFits, term_of}
 use Rattle.cml_step.specs.Steps.{goes_on, asks, next, pushed}
 use Rattle.cml_step.specs.Terms.{Program, Term, force, max_entries}
@@ -40,11 +40,6 @@ put_fits p hs old c d x is fits f g =
 pub call_there : (p : List (PlainItem ℕ)) (hs : List PlainHeld) (c : Call) (over : Option Entry) → StackFits p (topped (hs ++ plain_held (entry.Call c) ∷ []) over) → CallFits p c
 call_there p hs c None h = (fits_popped p hs (plain_held (entry.Call c)) h).1
 call_there p hs c (Some e) h = (beneath_popped p hs (plain_held (entry.Call c)) (fits_popped p (hs ++ plain_held (entry.Call c) ∷ []) (plain_held e) h).0).1
-
--- the call in its place is on top, where nothing stands over it
-pub call_on_top : (hs : List PlainHeld) {own : Option Call} {c : Call} {over : Option Entry} {now : List PlainHeld} → over ≡ None → own ≡ Some c →
-    topped (called hs own) over ≡ now → now ≡ hs ++ plain_held (entry.Call c) ∷ []
-call_on_top hs {own = o} none is view = sym view ∙ ap (topped (called hs o)) none ∙ ap (called hs) is
 
 -- another call on top, of the same entry
 pub same_call : (p : List (PlainItem ℕ)) (hs old new : List PlainHeld) (c d : Call) → old ≡ hs ++ plain_held (entry.Call c) ∷ [] → new ≡ hs ++ plain_held (entry.Call d) ∷ [] →

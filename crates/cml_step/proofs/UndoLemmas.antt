@@ -1,5 +1,5 @@
 -- What is noted of a call, and undone.
-use Rattle.std.specs.Prelude.{OnOk}
+use Rattle.std.specs.Prelude.{OnOk, IfOk, OnErr}
 use Rattle.std.proofs.Common.{Result, Ok, Err, ◌≡◌, ◌≤◌, ℕ, zero, suc, Bool, true, false, Option, Some, None, List, [], ◌∷◌, ◌++◌, length, take, set, get_or, refl, ap, sym, ◌∙◌, subst, arith}
 use Rattle.cml_value.specs.Value.{PlainValue}
 use Rattle.cml_step.specs.declared.call.Call.{Call}
@@ -8,8 +8,10 @@ use Rattle.cml_step.specs.declared.entry.Entry.TheVariants as entry
 use Rattle.cml_step.specs.declared.journal.Noted.{Noted}
 use Rattle.cml_step.specs.declared.journal.Journal.{Journal}
 use Rattle.cml_step.specs.declared.ask.Ask.{Ask}
+use Rattle.cml_step.specs.declared.ask.Ask.TheVariants as asks_of
 use Rattle.cml_step.specs.declared.still.Begun.{Begun}
-use Rattle.cml_step.specs.Begins.{BeginsSlice}
+use Rattle.cml_step.specs.declared.still.Begun.TheVariants as begun_of
+use Rattle.cml_step.specs.Begins.{RunsStill, BeginsSlice}
 use Rattle.cml_step.specs.Machines.{PlainHeld, PlainMachine, call, plain_held}
 use Rattle.cml_step.specs.Shared.{topped, called, HasNoCall, HasNoCallOnTop}
 use Rattle.cml_step.specs.Undone.{unset, call_before, stack_before, stood, wrapped, HasHead, HasSlotsOf, HasNotes}
@@ -17,7 +19,8 @@ use Rattle.cml_step.proofs.CallLemmas.{take_all}
 use Rattle.cml_check.specs.Syntax.{PlainItem}
 use Rattle.cml_check.specs.InOrder.{arities}
 use Rattle.cml_step.specs.declared.call.Wait.TheVariants as wait
-use Rattle.cml_step.specs.Agrees.{value_agrees}
+use Rattle.cml_step.specs.Agrees.{value_agrees, ask_agrees}
+use Rattle.cml_step.specs.AskViews.{plain_ask}
 use Rattle.cml_step.specs.Calls.{entry_of, text_of, slots_with}
 use Rattle.cml_step.specs.Slices.{GoesIn}
 use Rattle.cml_step.specs.Stacks.{CallFits, StackFits, term_of}
@@ -138,16 +141,47 @@ pub on_ok : {A E X Y : Type 0} → (r : Result A E) → (X → Y) → OnOk r X �
 on_ok (Ok a) f x = f x
 on_ok (Err e) f x = tt
 
+pub ok_then : {A E X Y : Type 0} → (r : Result A E) → (X → Y) → IfOk r (λ _. X) → IfOk r (λ _. Y)
+ok_then (Ok a) f x = f x
+ok_then (Err e) f x = tt
+
 -- a call that was given the value, or not
 pub fits_filled : (p : List (PlainItem ℕ)) (c d : Call) (v : PlainValue) (b : Bool) → CallFits p c → value_agrees (arities p) v ≡ true → d.func ≡ c.func →
     (b ≡ true → d.slots.items ≡ slots_with c.wait v c.slots.items) → (b ≡ true → d.wait ≡ wait.Runs) → (b ≡ false → d ≡ c) → CallFits p d
 fits_filled p c d v true h g f s r n = filled_fits p c d v h g f (r refl) (s refl)
 fits_filled p c d v false h g f s r n = subst (CallFits p) (sym (n refl)) h
 
+-- steps that were taken the way that is known
+pub runs_as : (p : List (PlainItem ℕ)) (most : ℕ) {x y : Begun} (j : Journal) (a : Ask) (old new : List PlainHeld) → x ≡ y →
+    RunsStill p most x j a old new → RunsStill p most y j a old new
+runs_as p most j a old new is h = subst (λ (x : Begun). RunsStill p most x j a old new) is h
+
+-- what is asked agrees, where nothing is
+pub none_agrees : (p : List (PlainItem ℕ)) (a : Ask) → a ≡ asks_of.Nothing → ask_agrees (arities p) (plain_ask a) ≡ true
+none_agrees p a none = ap (λ (b : Ask). ask_agrees (arities p) (plain_ask b)) none
+
 -- a slice has begun the way that is known
 pub begins_as : (p : List (PlainItem ℕ)) {x y : Begun} (j : Journal) (a : Ask) (old new spare : List PlainHeld) → x ≡ y →
     BeginsSlice p x j a old new spare → BeginsSlice p y j a old new spare
 begins_as p j a old new spare is begins = subst (λ (x : Begun). BeginsSlice p x j a old new spare) is begins
+
+-- where there is an error this holds, since it does anyway
+pub err_anyway : {A E X : Type 0} → (r : Result A E) → X → OnErr r X
+err_anyway (Ok a) x = tt
+err_anyway (Err e) x = x
+
+-- a slice of which no step was taken, where the spare became a copy of the whole stack
+pub begun_whole : {E : Type 0} → (p : List (PlainItem ℕ)) (r : Result Begun E) (j : Journal) (a : Ask) (old new spare : List PlainHeld) → new ≡ old → a ≡ asks_of.Nothing → StackFits p old →
+    IfOk r (λ b. (b ≡ begun_of.Goes 0) × (spare ≡ new)) → IfOk r (λ b. BeginsSlice p b j a old new spare)
+begun_whole p (Ok b) j a old new spare same asks fits h =
+    subst (λ (x : Begun). BeginsSlice p x j a old new spare) (sym h.0) (record {
+      spare_is = h.1 ∙ same;
+      asks = asks;
+      fits = subst (StackFits p) (sym same) fits;
+      within = omega arith;
+      goes = λ self. ap (term_of p) (sym same);
+    })
+begun_whole p (Err e) j a old new spare same asks fits h = tt
 
 abbrev pub machine_of : ℕ → List PlainHeld → PlainMachine
 machine_of thread hs = record { thread = thread; stack = hs }

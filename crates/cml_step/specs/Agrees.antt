@@ -2,7 +2,8 @@
 -- captured values as its place asks for. Here `arities` says how many parameters each function of the program has.
 use Rattle.std.specs.Prelude.{ℕ, ◌+◌, Bool, true, ◌&&◌, List, [], ◌∷◌, Option, Some, None}
 use Rattle.cml_value.specs.Value.{PlainValue, pair, event, PlainValues, no_values, values_and, PlainFunction, function}
-use Rattle.cml_value.specs.Value.{PlainBase, always, send, recv, swap, iget, mtake, mget, mswap, mail_recv, port_recv, join, at_tick, after_ticks, nack, PlainEvent, never, leaf, choose, wrap, guard, with_nack, scope, PlainEvents, no_events, events_and}
+use Rattle.cml_value.specs.Value.{PlainBase, always, send, recv, swap, iget, mtake, mget, mswap, mail_recv, port_recv, join, at_tick, after_ticks, nack}
+use Rattle.cml_value.specs.Value.{PlainEvent, never, leaf, choose, wrap, guard, with_nack, scope, PlainEvents, no_events, events_and}
 use Rattle.cml_value.specs.Group.{PlainLeaf}
 use Rattle.cml_check.specs.Heads.{takes}
 use Rattle.cml_group.specs.Force.{event_of}

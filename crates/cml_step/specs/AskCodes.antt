@@ -7,7 +7,8 @@ use Rattle.cml_value.specs.Codes.{value_code, function_code}
 use Rattle.cml_value.specs.GroupCodes.{group_code}
 use Rattle.cml_step.specs.declared.fault.Fault.{Fault}
 use Rattle.cml_step.specs.declared.fault.Fault.TheVariants as fault_of
-use Rattle.cml_step.specs.Asks.{PlainAsk, nothing, yield, spawn, make_chan, make_swap, make_ivar, make_mvar, make_mailbox, make_mchan, make_port, copy_port, iput, mput, mail, multicast, print, now, fresh_nack, sync, end, fault}
+use Rattle.cml_step.specs.Asks.{PlainAsk, nothing, yield, spawn, make_chan, make_swap, make_ivar, make_mvar, make_mailbox, make_mchan, make_port}
+use Rattle.cml_step.specs.Asks.{copy_port, iput, mput, mail, multicast, print, now, fresh_nack, sync, end, fault}
 
 abbrev pub fault_number : Fault → ℕ
 fault_number fault_of.Kind = 0

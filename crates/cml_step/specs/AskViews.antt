@@ -1,5 +1,6 @@
 -- The view of an ask of `src/`.
-use Rattle.cml_step.specs.Asks.{PlainAsk, nothing, yield, spawn, make_chan, make_swap, make_ivar, make_mvar, make_mailbox, make_mchan, make_port, copy_port, iput, mput, mail, multicast, print, now, fresh_nack, sync, end, fault}
+use Rattle.cml_step.specs.Asks.{PlainAsk, nothing, yield, spawn, make_chan, make_swap, make_ivar, make_mvar, make_mailbox, make_mchan, make_port}
+use Rattle.cml_step.specs.Asks.{copy_port, iput, mput, mail, multicast, print, now, fresh_nack, sync, end, fault}
 use Rattle.cml_step.specs.declared.ask.Ask.{Ask}
 use Rattle.cml_step.specs.declared.ask.Ask.TheVariants as asks
 

@@ -27,3 +27,4 @@ pub mod Undone
 pub mod Undos
 pub mod Begins
 pub mod Puts
+pub mod Plain

@@ -17,7 +17,7 @@ use crate::ask::Ask;
 use crate::expression::{evaluate, evaluate_in};
 use crate::fault::Stop;
 use crate::kind::{event_of, ivar_of, mailbox_of, mchan_of, mvar_of, port_of, truth_of};
-use crate::number::{quick_int, quick_truth};
+use crate::number::quick_int;
 use cml_check::{Act, ActOnOne, ActOnTwo, Effect, Expr, Exprs, Function, Instr, Prog, Source};
 use cml_value::{Event, FnRef, Tid, Value, ValueKind};
 use std::alloc::Global;
@@ -110,10 +110,10 @@ pub(crate) fn number_value_in(
     Some(Value::new(ValueKind::Int(z)))
 }
 
-// Whether a test holds in a call, found from its value.
+// Whether a test holds in a call.
 #[inline(never)]
 #[tactic(auto, using(crate::proofs::CallLemmas::tested, crate::proofs::CallLemmas::not_tested))]
-fn truth_in_full(
+fn truth_in(
     alloc: Global,
     program: &Prog,
     f: &Function,
@@ -128,28 +128,6 @@ fn truth_in_full(
 {
     let value = value_in(alloc, program, f, slots, e)?;
     truth_of(&value)
-}
-
-// Whether a test holds in a call.
-#[inline(always)]
-#[tactic(auto, using(crate::proofs::CallLemmas::tested, crate::proofs::VariableLemmas::evaluate_named))]
-fn truth_in(
-    alloc: Global,
-    program: &Prog,
-    f: &Function,
-    slots: &[Value],
-    e: &Expr,
-) -> Result<bool, Stop>
-    requires fits { expr_fits (arities program.now) (length f.now.names) e.now ≡ true }
-    requires distinct { AreDistinct f.now.names }
-    requires agree { all_agree (arities program.now) slots.now ≡ true }
-    ensures { let of = value_of (bound f.now.names slots.now) in
-        ComesTo (λ b. b) result (meaning.holds of (expr_map (name_at f.now.names) e.now)) }
-{
-    match quick_truth(slots, e) {
-        Some(b) => Ok(b),
-        None => truth_in_full(alloc, program, f, slots, e),
-    }
 }
 
 // The values of expressions in a call, put into `list` in place of what it held.
@@ -210,10 +188,10 @@ pub(crate) fn pad(slots: &mut Vec<Value>, slot: usize) -> Result<(), Stop>
     pad_in_full(slots, slot)
 }
 
-// Sets a variable to the value of an expression, whatever that is, and goes on at `next`.
+/// Sets a variable to the value of an expression, and goes on at `next`.
 #[inline(never)]
 #[tactic(auto, using(crate::proofs::VariableLemmas::bound_set, crate::proofs::CallLemmas::agree_set))]
-fn assign_in_full(
+pub(crate) fn assign(
     alloc: Global,
     program: &Prog,
     f: &Function,
@@ -239,40 +217,6 @@ fn assign_in_full(
     call.slots[slot] = value;
     call.at = next;
     Ok(())
-}
-
-/// Sets a variable to the value of an expression, and goes on at `next`.
-#[inline(always)]
-#[tactic(auto, using(crate::proofs::VariableLemmas::bound_set, crate::proofs::CallLemmas::agree_set))]
-pub(crate) fn assign(
-    alloc: Global,
-    program: &Prog,
-    f: &Function,
-    slot: usize,
-    e: &Expr,
-    next: usize,
-    call: &mut Call,
-) -> Result<(), Stop>
-    requires slot { slot < length f.now.names }
-    requires fits { expr_fits (arities program.now) (length f.now.names) e.now ≡ true }
-    requires ready { IsReady (arities program.now) f.now call.old }
-    ensures steps { (self : ℕ) (below : Term) →
-        let x = name_at f.now.names slot in
-        let source = plain_source_value (expr_map (name_at f.now.names) e.now) in
-        let after = statements_at f.now next in
-        let variables = variables_of f.now call.old in
-        StepsOn f.now result call.old call.new below
-        (steps.source_step (text_of program.now) self x source after variables below) }
-    ensures kept { RunsOn (arities program.now) call.old call.new }
-{
-    if let Some(z) = number_in(program, f, call.slots.as_slice(), e) {
-        if slot < call.slots.len() {
-            call.slots[slot] = Value::new(ValueKind::Int(z));
-            call.at = next;
-            return Ok(());
-        }
-    }
-    assign_in_full(alloc, program, f, slot, e, next, call)
 }
 
 /// Goes on at the first of two places where the test holds, else at the second.

@@ -11,6 +11,9 @@ use cml_value::Value;
 use std::alloc::Global;
 use std::mem::replace;
 
+// The most sets that are noted: a long run of steps is better made without notes.
+const MAX_NOTED: usize = 16;
+
 /// A slot that was set, and what it had.
 #[derive(Drop)]
 pub(crate) struct Noted {
@@ -54,7 +57,7 @@ fn unset(slots: &mut Vec<Value>, sets: &mut Vec<Noted>)
     }
 }
 
-/// Puts the value into the slot, and notes what that had. Without memory nothing has changed.
+/// Puts the value into the slot, and notes what that had. Without memory, or where enough is noted, nothing has changed.
 #[inline(always)]
 pub(crate) fn set_slot(
     slots: &mut Vec<Value>,
@@ -69,6 +72,31 @@ pub(crate) fn set_slot(
     ensures count { length slots.new.items ≡ length slots.old.items }
     ensures stays { result ≡ false → slots.new ≡ slots.old }
 {
+    if sets.len() >= MAX_NOTED {
+        drop(value);
+        return false;
+    }
+    let Ok(()) = sets.reserve(1) else {
+        drop(value);
+        return false;
+    };
+    let had = replace(&mut slots[slot], value);
+    sets.push_reserved(Noted { slot, value: had });
+    true
+}
+
+/// The same, where the slots are seen as a slice: so they are for many sets, one after another.
+#[inline(always)]
+pub(crate) fn set_in(slots: &mut [Value], slot: usize, value: Value, sets: &mut Vec<Noted>) -> bool
+    requires { slot < length slots.old }
+    ensures set { result ≡ true → slots.new ≡ slice_set slots.old slot value }
+    ensures noted { plain_unset sets.new.items slots.new ≡ plain_unset sets.old.items slots.old }
+    ensures stays { result ≡ false → slots.new ≡ slots.old }
+{
+    if sets.len() >= MAX_NOTED {
+        drop(value);
+        return false;
+    }
     let Ok(()) = sets.reserve(1) else {
         drop(value);
         return false;

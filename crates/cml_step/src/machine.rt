@@ -360,10 +360,6 @@ impl Machine {
                 undo.spare.thread = self.thread;
                 self.run_on(alloc, program, &mut undo.spare, done, asked)
             }
-            Begun::Not => {
-                undo.filled = true;
-                self.run_asking(alloc, program, &mut undo.spare, asked)
-            }
         }
     }
 

@@ -3,69 +3,61 @@
 ghost use Rattle.std.specs.Prelude.{◌≡◌, true, false, Some, Ok, IfSome};
 ghost use Rattle.cml_value.specs.{Value.{chan, mailbox, mvar, event, leaf}, Views.{plain_base}};
 ghost use Rattle.cml_step.specs.{Operators.{built}, Variables.{slot_value}, Evaluate.{evaluate}, Puts.{event_over, IsPut}};
-ghost use Rattle.cml_check.specs.Syntax.{binary};
+ghost use Rattle.cml_check.specs.{Syntax.{variable}, Ops.{flat_expr, offer_expr}};
 
 use crate::entry::Entry;
-use crate::number::quick_int;
-use cml_check::{Binary, Expr, ExprKind, Unary};
+use crate::number::flat_int;
+use cml_check::{Flat, Offer};
 use cml_group::{Forced, Forcing};
 use cml_value::{Base, BaseKind, ChanId, Event, EventKind, MVarId, MboxId, Value, ValueKind};
 use std::alloc::Global;
 
-// The channel that an expression is, where it is a variable.
-fn channel(slots: &[Value], e: &Expr) -> Option<ChanId>
-    ensures { IfSome result (λ c. evaluate (slot_value slots.now) e.now ≡ Ok (chan c.0)) }
+// The channel that a slot has.
+fn channel(slots: &[Value], at: usize) -> Option<ChanId>
+    ensures { IfSome result (λ c. evaluate (slot_value slots.now) (variable at) ≡ Ok (chan c.0)) }
 {
-    match &e.kind {
-        ExprKind::Variable(at) => match slots.get(*at) {
-            Some(value) => match value.kind() {
-                ValueKind::Chan(c) => Some(*c),
-                _ => None,
-            },
-            None => None,
+    match slots.get(at) {
+        Some(value) => match value.kind() {
+            ValueKind::Chan(c) => Some(*c),
+            _ => None,
         },
-        _ => None,
+        None => None,
     }
 }
 
-/// The mailbox that an expression is, where it is a variable.
-pub(crate) fn mailbox_in(slots: &[Value], e: &Expr) -> Option<MboxId>
-    ensures { IfSome result (λ o. evaluate (slot_value slots.now) e.now ≡ Ok (mailbox o.0)) }
+/// The mailbox that a slot has.
+pub(crate) fn mailbox_at(slots: &[Value], at: usize) -> Option<MboxId>
+    ensures { IfSome result (λ o.
+        evaluate (slot_value slots.now) (variable at) ≡ Ok (mailbox o.0)) }
 {
-    match &e.kind {
-        ExprKind::Variable(at) => match slots.get(*at) {
-            Some(value) => match value.kind() {
-                ValueKind::Mailbox(o) => Some(*o),
-                _ => None,
-            },
-            None => None,
+    match slots.get(at) {
+        Some(value) => match value.kind() {
+            ValueKind::Mailbox(o) => Some(*o),
+            _ => None,
         },
-        _ => None,
+        None => None,
     }
 }
 
-/// The M-variable that an expression is, where it is a variable.
-pub(crate) fn variable_in(slots: &[Value], e: &Expr) -> Option<MVarId>
-    ensures { IfSome result (λ o. evaluate (slot_value slots.now) e.now ≡ Ok (mvar o.0)) }
+/// The M-variable that a slot has.
+pub(crate) fn mvar_at(slots: &[Value], at: usize) -> Option<MVarId>
+    ensures { IfSome result (λ o. evaluate (slot_value slots.now) (variable at) ≡ Ok (mvar o.0)) }
 {
-    match &e.kind {
-        ExprKind::Variable(at) => match slots.get(*at) {
-            Some(value) => match value.kind() {
-                ValueKind::MVar(o) => Some(*o),
-                _ => None,
-            },
-            None => None,
+    match slots.get(at) {
+        Some(value) => match value.kind() {
+            ValueKind::MVar(o) => Some(*o),
+            _ => None,
         },
-        _ => None,
+        None => None,
     }
 }
 
-/// The value of an expression, where it is a variable or a number.
-pub(crate) fn message(slots: &[Value], e: &Expr) -> Option<Value>
-    ensures { IfSome result (λ v. evaluate (slot_value slots.now) e.now ≡ Ok v) }
+/// The value of a short expression, where it is what a slot has, or a number.
+pub(crate) fn message(slots: &[Value], e: &Flat) -> Option<Value>
+    ensures { IfSome result (λ v. evaluate (slot_value slots.now) (flat_expr e.now) ≡ Ok v) }
 {
-    match &e.kind {
-        ExprKind::Variable(at) => match slots.get(*at) {
+    match e {
+        Flat::Slot(at) => match slots.get(*at) {
             Some(value) => match value.copy() {
                 Ok(copy) => Some(copy),
                 Err(_) => None,
@@ -73,7 +65,7 @@ pub(crate) fn message(slots: &[Value], e: &Expr) -> Option<Value>
             None => None,
         },
         _ => {
-            let z = quick_int(slots, e)?;
+            let z = flat_int(slots, e)?;
             Some(Value::new(ValueKind::Int(z)))
         }
     }
@@ -113,16 +105,6 @@ fn event_at(slots: &[Value], at: usize) -> Option<Event>
             _ => None,
         },
         None => None,
-    }
-}
-
-/// Whether an expression is of a form of which the event may be found so.
-#[inline(always)]
-pub(crate) fn is_quick(e: &Expr) -> bool {
-    match &e.kind {
-        ExprKind::Variable(_) | ExprKind::Binary(Binary::Send, _, _) => true,
-        ExprKind::Unary(Unary::Recv | Unary::MailRecv | Unary::MTake, _) => true,
-        _ => false,
     }
 }
 
@@ -167,18 +149,18 @@ fn put_variable(
 fn put_message(
     alloc: Global,
     slots: &[Value],
-    d: &Expr,
-    e: &Expr,
+    at: usize,
+    e: &Flat,
     over: &mut Option<Entry>,
     forced: &mut Forced,
 ) -> bool
     ensures found { result ≡ true →
-        evaluate (slot_value slots.now) (binary Binary.Send d.now e.now)
+        evaluate (slot_value slots.now) (offer_expr (Offer.Send at e.now))
         ≡ Ok (event (event_over over.new)) }
     ensures put { result ≡ true → IsPut over.new }
     ensures stays { result ≡ false → over.new ≡ over.old }
 {
-    let Some(to) = channel(slots, d) else {
+    let Some(to) = channel(slots, at) else {
         return false;
     };
     let Some(what) = message(slots, e) else {
@@ -195,66 +177,64 @@ fn put_message(
 fn put_send(
     alloc: Global,
     slots: &[Value],
-    d: &Expr,
-    e: &Expr,
+    at: usize,
+    e: &Flat,
     over: &mut Option<Entry>,
     forced: &mut Forced,
 ) -> bool
     ensures found { result ≡ true →
-        evaluate (slot_value slots.now) (binary Binary.Send d.now e.now)
+        evaluate (slot_value slots.now) (offer_expr (Offer.Send at e.now))
         ≡ Ok (event (event_over over.new)) }
     ensures put { result ≡ true → IsPut over.new }
     ensures stays { result ≡ false → over.new ≡ over.old }
 {
-    let Some(z) = quick_int(slots, e) else {
-        return put_message(alloc, slots, d, e, over, forced);
+    let Some(z) = flat_int(slots, e) else {
+        return put_message(alloc, slots, at, e, over, forced);
     };
-    let Some(to) = channel(slots, d) else {
+    let Some(to) = channel(slots, at) else {
         return false;
     };
     put_base(BaseKind::Send(to, Value::new(ValueKind::Int(z))), over);
     true
 }
 
-/// Puts the event that an expression is there, to be forced, where it is a variable, or a receive, a send or a take, that can be found so
-/// and has no fault. Else nothing has changed.
+/// Puts the event there, to be forced, where it can be found so and has no fault. Else nothing has changed.
 #[inline(always)]
-pub(crate) fn put_event(
+pub(crate) fn put_offer(
     alloc: Global,
     slots: &[Value],
-    e: &Expr,
+    offer: &Offer,
     over: &mut Option<Entry>,
     forced: &mut Forced,
 ) -> bool
     ensures found { result ≡ true →
-        evaluate (slot_value slots.now) e.now ≡ Ok (event (event_over over.new)) }
+        evaluate (slot_value slots.now) (offer_expr offer.now) ≡ Ok (event (event_over over.new)) }
     ensures put { result ≡ true → IsPut over.new }
     ensures stays { result ≡ false → over.new ≡ over.old }
 {
-    match &e.kind {
-        ExprKind::Variable(at) => put_variable(alloc, slots, *at, over, forced),
-        ExprKind::Unary(Unary::Recv, e) => {
-            let Some(from) = channel(slots, e) else {
+    match offer {
+        Offer::Event(at) => put_variable(alloc, slots, *at, over, forced),
+        Offer::Recv(at) => {
+            let Some(from) = channel(slots, *at) else {
                 return false;
             };
             put_base(BaseKind::Recv(from), over);
             true
         }
-        ExprKind::Unary(Unary::MailRecv, e) => {
-            let Some(from) = mailbox_in(slots, e) else {
+        Offer::MailRecv(at) => {
+            let Some(from) = mailbox_at(slots, *at) else {
                 return false;
             };
             put_base(BaseKind::MailRecv(from), over);
             true
         }
-        ExprKind::Unary(Unary::MTake, e) => {
-            let Some(from) = variable_in(slots, e) else {
+        Offer::MTake(at) => {
+            let Some(from) = mvar_at(slots, *at) else {
                 return false;
             };
             put_base(BaseKind::MTake(from), over);
             true
         }
-        ExprKind::Binary(Binary::Send, d, e) => put_send(alloc, slots, d, e, over, forced),
-        _ => false,
+        Offer::Send(at, e) => put_send(alloc, slots, *at, e, over, forced),
     }
 }

@@ -11,7 +11,8 @@ ghost use Rattle.cml_step.specs.Steps as steps;
 
 use crate::call::{Call, Wait, number_value_in, pad, value_in, values_in};
 use crate::fault::Stop;
-use crate::quiet::quiet_run;
+use crate::journal::Noted;
+use crate::plain::plain_run;
 use crate::stack::{MAX_ENTRIES, deliver_to_call};
 use cml_check::{Effect, Expr, Exprs, Function, Instr, Prog, Source};
 use cml_value::{Value, ValueKind};
@@ -346,6 +347,7 @@ pub(crate) fn quick_run(
     program: &Prog,
     call: &mut Call,
     callers: &mut Vec<Call>,
+    sets: &mut Vec<Noted>,
     room: usize,
     most: u32,
 ) -> u32
@@ -362,7 +364,7 @@ pub(crate) fn quick_run(
     let mut idle = Vec::new(alloc);
     let mut done = 0u32;
     while done < most {
-        done += quiet_run(alloc, program, call, most - done);
+        done += plain_run(alloc, program, call, sets, false, most - done);
         if done == most {
             return done;
         }

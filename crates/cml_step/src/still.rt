@@ -1,9 +1,9 @@
 //! The first steps of a slice, as long as they stay in the call on top: what they change is noted, so nothing is copied.
 
-ghost use Rattle.std.specs.Prelude.{◌≡◌, ◌<◌, ◌≤◌, ◌+◌, ℕ, List, [], ◌∷◌, ◌++◌, true, false, None, OnErr, IfOk, IfSome, length};
+ghost use Rattle.std.specs.Prelude.{◌≡◌, ◌<◌, ◌≤◌, ℕ, List, [], ◌∷◌, ◌++◌, true, false, None, OnErr, IfOk, IfSome, length};
 ghost use Rattle.cml_check.specs.{Syntax.{PlainItem}, InOrder.{arities}};
-ghost use Rattle.cml_step.specs.{Agrees.{ask_agrees}, AskViews.{plain_ask}, Begins.{BeginsSlice}, Calls.{text_of}};
-ghost use Rattle.cml_step.specs.{Machines.{PlainHeld, wraps as plain_wraps}, Shared.{topped, HasNoCall}, Slices.{GoesIn, max_steps}};
+ghost use Rattle.cml_step.specs.{Agrees.{ask_agrees}, AskViews.{plain_ask}, Begins.{RunsStill, BeginsSlice}, Calls.{text_of}};
+ghost use Rattle.cml_step.specs.{Machines.{PlainHeld, wraps as plain_wraps}, Shared.{topped, HasNoCall}, Slices.{GoesIn}};
 ghost use Rattle.cml_step.specs.{Stacks.{StackFits, term_of}, Steps.{next, asks}};
 ghost use Rattle.cml_step.specs.Undone.{stood, stack_before, wrapped, HasHead, HasSlotsOf, HasNotes, IsNotedStack};
 
@@ -13,7 +13,7 @@ use crate::call::Call;
 use crate::entries::{Frames, Stack};
 use crate::entry::{Entry, Wraps};
 use crate::journal::Journal;
-use crate::noted::{deliver_noted, noted_run};
+use crate::plain::{deliver_noted, plain_run};
 use crate::stack::MAX_ENTRIES;
 use crate::steps::{MAX_STEPS, are_done};
 use crate::sync::{asks_group, at_sync, sync_step};
@@ -142,8 +142,8 @@ fn put_over(
     0
 }
 
-// Takes the first steps, as long as they stay in the call on top of these entries, and the journal has what they change. Returns how many
-// they were; where another entry than wraps that are done stands over the call nothing has changed.
+// Takes the first steps, at most this many, as long as they stay in the call on top of these entries, and the journal has what they change.
+// Returns how many they were; where another entry than wraps that are done stands over the call nothing has changed.
 fn still_steps(
     alloc: Global,
     program: &Prog,
@@ -151,10 +151,12 @@ fn still_steps(
     over: &mut Option<Entry>,
     call: &mut Call,
     journal: &mut Journal,
+    most: u32,
 ) -> Option<u32>
-    requires { StackFits program.now (stood below.now call.old over.old) }
+    requires fits { StackFits program.now (stood below.now call.old over.old) }
+    requires some { 0 < most }
     ensures fits { IfSome result (λ _. StackFits program.now (stood below.now call.new over.new)) }
-    ensures within { IfSome result (λ n. n ≤ max_steps) }
+    ensures within { IfSome result (λ n. n ≤ most) }
     ensures goes { IfSome result (λ n. (self : ℕ) → GoesIn (text_of program.now) self n
         (term_of program.now (stood below.now call.old over.old))
         (term_of program.now (stood below.now call.new over.new))) }
@@ -164,16 +166,18 @@ fn still_steps(
     ensures stays { result ≡ None → (call.new ≡ call.old) × (over.new ≡ over.old) }
 {
     let first = begin_noted(program, below, over, call, journal)?;
-    let most = MAX_STEPS - 1 - first;
-    let set = noted_run(alloc, program, call, &mut journal.sets, most);
+    let set = plain_run(alloc, program, call, &mut journal.sets, true, most - first);
+    let done = first + set;
+    if done == most {
+        return Some(done);
+    }
     let put = put_over(alloc, program, below, over, call, &mut journal.forced);
-    Some(first + set + put)
+    Some(done + put)
 }
 
-// Whether a step is left after this many, and the event over a call has nothing left to be forced, and its group was not asked for yet, and
-// is now. Else nothing has changed.
+// Whether the event over a call has nothing left to be forced, and its group was not asked for yet, and is now. Else nothing has changed.
 #[inline(always)]
-fn asks_over(over: &mut Option<Entry>, asked: &mut Ask, done: u32) -> bool
+fn asks_over(over: &mut Option<Entry>, asked: &mut Ask) -> bool
     ensures asks { result ≡ true → (p : List (PlainItem ℕ)) (self : ℕ) (hs : List PlainHeld) →
         next (text_of p) self (term_of p (topped hs over.old))
         ≡ asks (plain_ask asked.new) (term_of p (topped hs over.new)) }
@@ -182,12 +186,8 @@ fn asks_over(over: &mut Option<Entry>, asked: &mut Ask, done: u32) -> bool
         → StackFits p (topped hs over.new) × (ask_agrees (arities p) (plain_ask asked.new) ≡ true) }
     ensures no_call { HasNoCall over.old → HasNoCall over.new }
     ensures something { result ≡ true → asked.new ≡ Ask.Nothing → ⊥ }
-    ensures within { result ≡ true → done < max_steps }
     ensures stays { result ≡ false → (over.new ≡ over.old) × (asked.new ≡ asked.old) }
 {
-    if done >= MAX_STEPS {
-        return false;
-    }
     if let Some(entry) = over {
         if let Entry::Force(forcing, waits) = entry {
             return asks_group(forcing, waits, asked);
@@ -196,7 +196,7 @@ fn asks_over(over: &mut Option<Entry>, asked: &mut Ask, done: u32) -> bool
     false
 }
 
-// Whether a step is left after this many, and nothing stands over the call, which asks something where it stands. Else nothing has changed.
+// Whether nothing stands over the call, which asks something where it stands. Else nothing has changed.
 #[inline(always)]
 fn asks_call(
     program: &Prog,
@@ -204,7 +204,6 @@ fn asks_call(
     over: &Option<Entry>,
     call: &mut Call,
     asked: &mut Ask,
-    done: u32,
 ) -> bool
     requires { StackFits program.now (stood below.now call.old over.now) }
     ensures asks { result ≡ true → (self : ℕ) →
@@ -213,25 +212,99 @@ fn asks_call(
     ensures fits { result ≡ true → StackFits program.now (stood below.now call.new over.now) }
     ensures agrees { result ≡ true → ask_agrees (arities program.now) (plain_ask asked.new) ≡ true }
     ensures something { result ≡ true → asked.new ≡ Ask.Nothing → ⊥ }
-    ensures within { result ≡ true → done < max_steps }
     ensures kept { (call.new.func ≡ call.old.func) × (call.new.slots ≡ call.old.slots) }
     ensures stays { result ≡ false → (call.new ≡ call.old) × (asked.new ≡ asked.old) }
 {
-    if done >= MAX_STEPS {
-        return false;
-    }
     if over.is_some() {
         return false;
     }
     ask_step(program, call, asked)
 }
 
-/// How a slice has begun: not at all; with this many steps, of which the last asks; or with this many that go on.
+/// Steps that were taken: so many, of which the last asks; or so many that go on.
 #[derive(Clone, Copy)]
 pub(crate) enum Begun {
-    Not,
     Asks(u32),
     Goes(u32),
+}
+
+// Whether something stands there that is not done.
+#[inline(always)]
+fn is_forced(over: &Option<Entry>) -> bool {
+    over.is_some() && !are_done(over)
+}
+
+/// Takes the first steps of a stack, at most this many, as long as they stay in the call on top, up to the first that asks. The journal has
+/// what they change. Where none is taken so nothing may have changed.
+#[inline(never)]
+pub(crate) fn still(
+    alloc: Global,
+    program: &Prog,
+    stack: &mut Stack,
+    journal: &mut Journal,
+    most: u32,
+    asked: &mut Ask,
+) -> Option<Begun>
+    requires fits { StackFits program.now stack.old }
+    requires nothing { asked.old ≡ Ask.Nothing }
+    requires some { 0 < most }
+    ensures begun { IfSome result (λ b.
+        RunsStill program.now most b journal.new asked.new stack.old stack.new) }
+    ensures stays { result ≡ None → (stack.new ≡ stack.old) × (asked.new ≡ asked.old) }
+{
+    if is_forced(&stack.over) {
+        return None;
+    }
+    let Some(call) = &mut stack.call else {
+        return None;
+    };
+    let Some(done) = still_steps(
+        alloc,
+        program,
+        &stack.below,
+        &mut stack.over,
+        call,
+        journal,
+        most,
+    ) else {
+        return None;
+    };
+    if done == most {
+        return Some(Begun::Goes(done));
+    }
+    if asks_over(&mut stack.over, asked) {
+        return Some(Begun::Asks(done + 1));
+    }
+    if asks_call(program, &stack.below, &stack.over, call, asked) {
+        return Some(Begun::Asks(done + 1));
+    }
+    Some(Begun::Goes(done))
+}
+
+// Makes the spare what the stack was before what the journal has of it. Where memory runs out the journal is as it was.
+fn copy_noted(
+    alloc: Global,
+    stack: &Stack,
+    spare: &mut Stack,
+    journal: &mut Journal,
+) -> Result<(), AllocError>
+    ensures ok { (before : List PlainHeld) → IsNotedStack journal.old stack.now before
+        → IfOk result (λ _. spare.new ≡ before) }
+    ensures err { OnErr result (journal.new ≡ journal.old) }
+{
+    match &stack.call {
+        Some(call) => spare.copy_before(alloc, call, &stack.below, journal),
+        // The journal has what the call on top was, so that is there.
+        None => Err(AllocError),
+    }
+}
+
+// Makes the spare a copy of the stack, of which no step was taken.
+fn copy_whole(alloc: Global, stack: &Stack, spare: &mut Stack) -> Result<Begun, AllocError>
+    ensures { IfOk result (λ b. (b ≡ Begun.Goes 0) × (spare.new ≡ stack.now)) }
+{
+    spare.copy_from(alloc, stack)?;
+    Ok(Begun::Goes(0))
 }
 
 /// Takes the first steps of a slice. Where they come to an ask in the call on top, the journal has what they changed; else the spare becomes
@@ -253,25 +326,18 @@ pub(crate) fn begin_slice(
         BeginsSlice program.now b journal.new asked.new stack.old stack.new spare.new) }
     ensures err { OnErr result ((stack.new ≡ stack.old) × (asked.new ≡ Ask.Nothing)) }
 {
-    let Some(call) = &mut stack.call else {
-        return Ok(Begun::Not);
-    };
-    let Some(done) = still_steps(alloc, program, &stack.below, &mut stack.over, call, journal)
-    else {
-        return Ok(Begun::Not);
-    };
-    if asks_over(&mut stack.over, asked, done) {
-        return Ok(Begun::Asks(done + 1));
-    }
-    if asks_call(program, &stack.below, &stack.over, call, asked, done) {
-        return Ok(Begun::Asks(done + 1));
-    }
-    match spare.copy_before(alloc, call, &stack.below, journal) {
-        Ok(()) => Ok(Begun::Goes(done)),
-        Err(error) => {
-            journal.put_back(&mut stack.over, call);
-            Err(error)
-        }
+    match still(alloc, program, stack, journal, MAX_STEPS, asked) {
+        Some(begun) => match begun {
+            Begun::Asks(steps) => Ok(Begun::Asks(steps)),
+            Begun::Goes(done) => match copy_noted(alloc, stack, spare, journal) {
+                Ok(()) => Ok(Begun::Goes(done)),
+                Err(error) => {
+                    undo_noted(stack, journal);
+                    Err(error)
+                }
+            },
+        },
+        None => copy_whole(alloc, stack, spare),
     }
 }
 

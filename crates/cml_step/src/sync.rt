@@ -2,89 +2,58 @@
 //! Then the step is made in full, and that tells each fault.
 
 ghost use Rattle.std.specs.Prelude.{◌≡◌, ℕ, ◌<◌, List, ◌∷◌, length, true, false, Some, Ok, slice_get};
-ghost use Rattle.cml_value.specs.{Value.{event as plain_event}, Group.{leaf}, Views.{plain_base}};
-ghost use Rattle.cml_check.specs.{Syntax.{effect_map, expr_map, name_at}, StmtViews.{plain_effect}, Names.{AreDistinct}};
-ghost use Rattle.cml_check.specs.{InOrder.{FunctionFits, arities, effect_fits, expr_fits}, Layout.{left}, Follows.{Follows, instr_fits}};
-ghost use Rattle.cml_check.specs.InstrViews.{plain_instr};
+ghost use Rattle.cml_value.specs.{Group.{leaf}, Views.{plain_base}};
+ghost use Rattle.cml_check.specs.{Syntax.{effect_map, name_at}, Ops.{sync_effect, Acts, given_fits}};
+ghost use Rattle.cml_check.specs.{InOrder.{FunctionFits, arities, effect_fits}, Layout.{left}};
 ghost use Rattle.cml_check.specs.Syntax as syntax;
-ghost use Rattle.cml_step.specs.{Agrees.{all_agree, event_agrees, ask_agrees}, AskViews.{plain_ask}, Variables.{bound, value_of}};
+ghost use Rattle.cml_step.specs.{Agrees.{all_agree, event_agrees, ask_agrees}, AskViews.{plain_ask}, Variables.{bound}};
 ghost use Rattle.cml_step.specs.{Terms.{Program, Term, force}, Calls.{entry_of, call_at, text_of, variables_of, statements_at, WaitFits}};
 ghost use Rattle.cml_step.specs.{Steps.{pushed, asks}, Stacks.{CallFits}, Undone.{HasSlotsOf}, Puts.{event_over, IsPut}};
-ghost use Rattle.cml_step.specs.Evaluate as meaning;
 ghost use Rattle.cml_step.specs.Steps as steps;
 
 use crate::ask::Ask;
 use crate::call::{Call, Wait, pad};
 use crate::entry::Entry;
-use crate::offer::{is_quick, put_event};
-use cml_check::{ActOnOne, Effect, Expr, Function, Instr, Prog, Source};
+use crate::offer::put_offer;
+use cml_check::{Function, Offer, Op, Prog};
 use cml_group::{Forced, Forcing};
 use cml_value::{Base, BaseKind, Group, GroupKind, Value, ValueKind};
 use std::alloc::Global;
 
-// Puts the value of an expression in a call there, if it is an event that is found without making a `Value` of it. Else nothing has changed.
+// Puts the event there to synchronize on, to be forced, if it is found without making a `Value` of it. Else nothing has changed.
 #[inline(always)]
 #[tactic(auto, using(crate::proofs::VariableLemmas::evaluate_named))]
-fn event_in(
+fn sync_in(
     alloc: Global,
     program: &Prog,
     f: &Function,
-    slots: &[Value],
-    e: &Expr,
-    over: &mut Option<Entry>,
-    forced: &mut Forced,
-) -> bool
-    requires fits { expr_fits (arities program.now) (length f.now.names) e.now ≡ true }
-    requires distinct { AreDistinct f.now.names }
-    requires agree { all_agree (arities program.now) slots.now ≡ true }
-    ensures gives { let of = value_of (bound f.now.names slots.now) in
-        result ≡ true →
-        meaning.evaluate of (expr_map (name_at f.now.names) e.now)
-        ≡ Ok (plain_event (event_over over.new)) }
-    ensures agrees { result ≡ true →
-        event_agrees (arities program.now) (event_over over.new) ≡ true }
-    ensures put { result ≡ true → IsPut over.new }
-    ensures stays { result ≡ false → over.new ≡ over.old }
-{
-    put_event(alloc, slots, e, over, forced)
-}
-
-// The same of the event that an effect synchronizes on, where it does.
-#[inline(always)]
-fn event_of_effect(
-    alloc: Global,
-    program: &Prog,
-    f: &Function,
-    effect: &Effect,
+    offer: &Offer,
     slots: &[Value],
     over: &mut Option<Entry>,
     forced: &mut Forced,
 ) -> bool
     requires fits { effect_fits (arities program.now) (length f.now.names)
-        (plain_effect effect.now) ≡ true }
+        (sync_effect offer.now) ≡ true }
     requires function { FunctionFits (arities program.now) f.now }
     requires agree { all_agree (arities program.now) slots.now ≡ true }
     ensures gives { result ≡ true → (self : ℕ) (term : Term) →
         steps.effect_step (text_of program.now) self (bound f.now.names slots.now)
-        (effect_map (name_at f.now.names) (plain_effect effect.now)) term
+        (effect_map (name_at f.now.names) (sync_effect offer.now)) term
         ≡ pushed (force (event_over over.new) false) term }
     ensures agrees { result ≡ true →
         event_agrees (arities program.now) (event_over over.new) ≡ true }
     ensures put { result ≡ true → IsPut over.new }
     ensures stays { result ≡ false → over.new ≡ over.old }
 {
-    match effect {
-        Effect::ActOnOne(ActOnOne::Sync, e) => event_in(alloc, program, f, slots, e, over, forced),
-        _ => false,
-    }
+    put_offer(alloc, slots, offer, over, forced)
 }
 
-// The call waits for what the effect gives, and goes on at `next`: the event stands there. Where that is not found so nothing has changed.
+// The call waits for what the synchronization gives, and goes on at `next`: the event stands there. Where that is not found so nothing has changed.
 fn waits(
     alloc: Global,
     program: &Prog,
     f: &Function,
-    effect: &Effect,
+    offer: &Offer,
     wait: Wait,
     next: usize,
     call: &mut Call,
@@ -92,14 +61,14 @@ fn waits(
     forced: &mut Forced,
 ) -> bool
     requires fits { effect_fits (arities program.now) (length f.now.names)
-        (plain_effect effect.now) ≡ true }
+        (sync_effect offer.now) ≡ true }
     requires function { (FunctionFits (arities program.now) f.now)
         × (slice_get program.now call.old.func ≡ Some f.now) }
     requires call { CallFits program.now call.old }
     requires waits { WaitFits wait (length f.now.names) (length call.old.slots.items) }
     ensures gives { result ≡ true → (self : ℕ) (below : Term) →
         steps.effect_step (text_of program.now) self (variables_of f.now call.old)
-        (effect_map (name_at f.now.names) (plain_effect effect.now))
+        (effect_map (name_at f.now.names) (sync_effect offer.now))
         (call_at f.now next call.old.slots.items wait ∷ below)
         ≡ pushed (force (event_over over.new) false) (entry_of program.now call.new ∷ below) }
     ensures put { result ≡ true → IsPut over.new }
@@ -109,11 +78,11 @@ fn waits(
     ensures agrees { result ≡ true →
         event_agrees (arities program.now) (event_over over.new) ≡ true }
 {
-    if !event_of_effect(
+    if !sync_in(
         alloc,
         program,
         f,
-        effect,
+        offer,
         call.slots.as_slice(),
         over,
         forced,
@@ -126,12 +95,12 @@ fn waits(
     true
 }
 
-// The same of an effect whose answer a slot is given. Where its event is not found so nothing has changed but that slots may have been added.
+// The same, where a slot is given what it gives. Where its event is not found so nothing has changed but that slots may have been added.
 fn let_waits(
     alloc: Global,
     program: &Prog,
     f: &Function,
-    effect: &Effect,
+    offer: &Offer,
     slot: usize,
     next: usize,
     call: &mut Call,
@@ -140,12 +109,12 @@ fn let_waits(
 ) -> bool
     requires slot { slot < length f.now.names }
     requires fits { effect_fits (arities program.now) (length f.now.names)
-        (plain_effect effect.now) ≡ true }
+        (sync_effect offer.now) ≡ true }
     requires function { (FunctionFits (arities program.now) f.now)
         × (slice_get program.now call.old.func ≡ Some f.now) }
     requires call { (CallFits program.now call.old) × (call.old.wait ≡ Wait.Runs) }
     ensures gives { result ≡ true → (self : ℕ) (below : Term) →
-        let source = syntax.effect (effect_map (name_at f.now.names) (plain_effect effect.now)) in
+        let source = syntax.effect (effect_map (name_at f.now.names) (sync_effect offer.now)) in
         steps.source_step (text_of program.now) self (name_at f.now.names slot) source
         (statements_at f.now next) (variables_of f.now call.old) below
         ≡ pushed (force (event_over over.new) false) (entry_of program.now call.new ∷ below) }
@@ -161,24 +130,27 @@ fn let_waits(
         return false;
     };
     let wait = Wait::Gives(slot);
-    waits(alloc, program, f, effect, wait, next, call, over, forced)
+    waits(alloc, program, f, offer, wait, next, call, over, forced)
 }
 
-// The same of an instruction.
-#[tactic(auto, using(crate::proofs::UndoLemmas::kept_had, crate::proofs::UndoLemmas::same_had))]
+// The same, where the slot is given what it gives, if there is one.
+#[tactic(auto, using(crate::proofs::UndoLemmas::kept_had))]
 fn synced(
     alloc: Global,
     program: &Prog,
     f: &Function,
-    instr: &Instr,
+    offer: &Offer,
+    given: Option<usize>,
+    next: usize,
     call: &mut Call,
     over: &mut Option<Entry>,
     forced: &mut Forced,
 ) -> bool
     requires here { let left_at = left f.now.body in
-        Follows left_at (plain_instr instr.now) (left_at call.old.at) }
-    requires fits { let slots = length f.now.names in
-        instr_fits (arities program.now) slots (plain_instr instr.now) ≡ true }
+        Acts left_at (sync_effect offer.now) given next (left_at call.old.at) }
+    requires given { given_fits (length f.now.names) given ≡ true }
+    requires fits { effect_fits (arities program.now) (length f.now.names)
+        (sync_effect offer.now) ≡ true }
     requires function { (FunctionFits (arities program.now) f.now)
         × (slice_get program.now call.old.func ≡ Some f.now) }
     requires call { (CallFits program.now call.old) × (call.old.wait ≡ Wait.Runs) }
@@ -194,49 +166,19 @@ fn synced(
     ensures agrees { result ≡ true →
         event_agrees (arities program.now) (event_over over.new) ≡ true }
 {
-    match instr {
-        Instr::Let(slot, source, next) => match source {
-            Source::Effect(effect) => {
-                let_waits(alloc, program, f, effect, *slot, *next, call, over, forced)
-            }
-            Source::Value(_) => false,
-        },
-        Instr::Do(effect, next) => {
-            waits(
-                alloc,
-                program,
-                f,
-                effect,
-                Wait::Drops,
-                *next,
-                call,
-                over,
-                forced,
-            )
-        }
-        _ => false,
-    }
-}
-
-// Whether an effect is a synchronization on an event that may be found so.
-#[inline(always)]
-fn is_on_quick(effect: &Effect) -> bool {
-    match effect {
-        Effect::ActOnOne(ActOnOne::Sync, e) => is_quick(e),
-        _ => false,
-    }
-}
-
-// Whether an instruction is one.
-#[inline(always)]
-fn is_sync(instr: &Instr) -> bool {
-    match instr {
-        Instr::Let(_, source, _) => match source {
-            Source::Effect(effect) => is_on_quick(effect),
-            Source::Value(_) => false,
-        },
-        Instr::Do(effect, _) => is_on_quick(effect),
-        _ => false,
+    match given {
+        Some(slot) => let_waits(alloc, program, f, offer, slot, next, call, over, forced),
+        None => waits(
+            alloc,
+            program,
+            f,
+            offer,
+            Wait::Drops,
+            next,
+            call,
+            over,
+            forced,
+        ),
     }
 }
 
@@ -248,8 +190,8 @@ pub(crate) fn at_sync(program: &Prog, call: &Call) -> bool
     if call.wait != Wait::Runs {
         return false;
     }
-    match program.function(call.func).instr(call.at) {
-        Some(instr) => is_sync(instr),
+    match program.function(call.func).op(call.at) {
+        Some(op) => matches!(op, Op::Sync(_, _, _)),
         None => false,
     }
 }
@@ -280,8 +222,13 @@ pub(crate) fn sync_step(
         return false;
     }
     let f = program.function(call.func);
-    match f.instr(call.at) {
-        Some(instr) => synced(alloc, program, f, instr, call, over, forced),
+    match f.op(call.at) {
+        Some(op) => match op {
+            Op::Sync(offer, given, next) => {
+                synced(alloc, program, f, offer, *given, *next, call, over, forced)
+            }
+            _ => false,
+        },
         None => false,
     }
 }

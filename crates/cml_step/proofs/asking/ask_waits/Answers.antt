@@ -1,6 +1,6 @@
 use Rattle.std.proofs.Common.{◌∷◌, ◌∙◌, ap, sym}
 use Rattle.cml_check.specs.Syntax.{effect_map, name_at}
-use Rattle.cml_check.specs.StmtViews.{plain_effect}
+use Rattle.cml_check.specs.Ops.{told_effect}
 use Rattle.cml_step.specs.declared.call.Call.{Call}
 use Rattle.cml_step.specs.declared.call.Wait.TheVariants as wait
 use Rattle.cml_step.specs.AskViews.{plain_ask}
@@ -17,7 +17,7 @@ returns-in-Some-clause-meant c = λ on self below.
     let old = c.args.call.now in
     let waiting = call_at f c.args.next old.slots.items wait.Drops in
     let kept : Call = record { func = old.func; at = c.args.next; slots = old.slots; wait = wait.Drops; asked = old.at } in
-    ap (λ ws. effect_step (text_of p) self (bound f.names ws) (effect_map (name_at f.names) (plain_effect c.args.effect.now)) (waiting ∷ below)) (sym c.as_slice.ensures.value)
+    ap (λ ws. effect_step (text_of p) self (bound f.names ws) (effect_map (name_at f.names) (told_effect c.args.told.now)) (waiting ∷ below)) (sym c.as_slice.ensures.value)
     ∙ c.in-Some.ensures.gives self (waiting ∷ below)
     ∙ ap (λ t. asks (plain_ask c.in-Some.ask) (t ∷ below)) (sym (entry_there p f kept c.requires.function.1))
 

@@ -1,127 +1,41 @@
-use Rattle.std.proofs.Common.{◌≡◌, ◌++◌, ◌∷◌, [], Option, refl, ap, sym, ◌∙◌, subst}
-use Rattle.cml_step.specs.declared.call.Call.{Call}
-use Rattle.cml_step.specs.declared.entry.Entry.{Entry}
-use Rattle.cml_step.specs.declared.entry.Entry.TheVariants as entry
+use Rattle.std.proofs.Common.{sym, ◌∙◌, subst}
 use Rattle.cml_step.specs.declared.journal.Journal.{Journal}
-use Rattle.cml_step.specs.Calls.{text_of}
-use Rattle.cml_step.specs.Machines.{PlainHeld, plain_held}
-use Rattle.cml_step.specs.Shared.{topped, called}
-use Rattle.cml_step.specs.Slices.{GoesIn, sliced}
-use Rattle.cml_step.specs.Stacks.{StackFits, term_of}
-use Rattle.cml_step.specs.Terms.{Term}
-use Rattle.cml_step.specs.Undone.{stood, stack_before, wrapped}
-use Rattle.cml_step.proofs.SliceLemmas.{slice_then_asks}
-use Rattle.cml_step.proofs.UndoLemmas.{kept_before}
+use Rattle.cml_step.specs.Undone.{IsNotedStack}
+use Rattle.cml_step.proofs.UndoLemmas.{runs_as, begun_whole, err_anyway}
 use Rattle.cml_step.proofs.still.begin_slice.Goals as goal
 
-pub still_steps-requires : goal.still_steps-requires
-still_steps-requires c =
-    let s = c.stack.inside in
-    let st : c.args.stack.now ≡ stood s.below c.in-Some.call s.over = sym c.stack.view_is ∙ ap (λ (o : Option Call). topped (called s.below o) s.over) c.in-Some.is in
-    subst (StackFits c.args.program.now) st c.requires.fits
-
-pub returns-then-asks_over-clause-begins : goal.returns-then-asks_over-clause-begins
-returns-then-asks_over-clause-begins c =
+pub returns-in-None-clause-begins : goal.returns-in-None-clause-begins
+returns-in-None-clause-begins c =
     let p = c.args.program.now in
-    let s = c.stack.inside in
-    let hs = s.below in
-    let k = c.in-Some.call in
-    let d = c.still_steps.new.call in
-    let o = c.asks_over.new.over in
-    let by = c.in-Some-still_steps.ensures in
-    let on = c.if-asks_over.true in
-    let all = hs ++ plain_held (entry.Call d) ∷ [] in
-    let stands = c.asks_over.ensures.fits on p all by.fits in
-    let free = c.asks_over.ensures.no_call (c.still_steps.ensures.no_call c.stack.invariant.2) in
-    let st : c.args.stack.now ≡ stood hs k s.over = sym c.stack.view_is ∙ ap (λ (o : Option Call). topped (called hs o) s.over) c.in-Some.is in
-    record {
-      noted = record { below = hs; top = d; over = o; no_call = free; now_is = refl; before_is = st ∙ sym by.undone };
-      agrees = stands.1;
-      fits = stands.0;
-      meant = λ self. ap (λ ks. sliced (text_of p) self (term_of p ks)) st
-          ∙ slice_then_asks (text_of p) self c.in-Some-still_steps.done (term_of p (stood hs k s.over)) (term_of p (stood hs d c.still_steps.new.over)) (term_of p (stood hs d o)) c.asks_over.new.asked
-          (by.goes self) (c.asks_over.ensures.within on) (c.asks_over.ensures.asks on p self all) (c.asks_over.ensures.something on);
-    }
+    let b = c.still.new in
+    let stays = c.still.ensures.stays c.in-None.is in
+    begun_whole p c.copy_whole.result b.journal b.asked c.args.stack.now b.stack c.copy_whole.new.spare
+    stays.0 (stays.1 ∙ c.requires.nothing) c.requires.fits c.copy_whole.ensures
 
-pub asks_call-requires : goal.asks_call-requires
-asks_call-requires c =
-    let same = ap (stood c.stack.inside.below c.still_steps.new.call) (c.asks_over.ensures.stays c.if-asks_over.false).0 in
-    subst (StackFits c.args.program.now) (sym same) c.in-Some-still_steps.ensures.fits
+pub returns-in-None-clause-err : goal.returns-in-None-clause-err
+returns-in-None-clause-err c =
+    let stays = c.still.ensures.stays c.in-None.is in
+    err_anyway c.copy_whole.result (stays.0, stays.1 ∙ c.requires.nothing)
 
-pub returns-then-asks_call-clause-begins : goal.returns-then-asks_call-clause-begins
-returns-then-asks_call-clause-begins c =
-    let p = c.args.program.now in
-    let s = c.stack.inside in
-    let hs = s.below in
-    let k = c.in-Some.call in
-    let d = c.still_steps.new.call in
-    let e = c.asks_call.new.call in
-    let o = c.asks_over.new.over in
-    let n = c.in-Some-still_steps.done in
-    let by = c.in-Some-still_steps.ensures in
-    let a = c.asks_call.ensures in
-    let on = c.if-asks_call.true in
-    let j = c.still_steps.new.journal in
-    let same : stood hs d o ≡ stood hs d c.still_steps.new.over = ap (stood hs d) (c.asks_over.ensures.stays c.if-asks_over.false).0 in
-    let st : c.args.stack.now ≡ stood hs k s.over = sym c.stack.view_is ∙ ap (λ (o : Option Call). topped (called hs o) s.over) c.in-Some.is in
-    record {
-      noted = record {
-        below = hs;
-        top = e;
-        over = o;
-        no_call = c.asks_over.ensures.no_call (c.still_steps.ensures.no_call c.stack.invariant.2);
-        now_is = refl;
-        before_is = st ∙ sym by.undone ∙ ap (λ (h : PlainHeld). topped (hs ++ h ∷ []) (wrapped j.over)) (sym (kept_before j d e a.kept.0 (ap (λ vs. vs.items) a.kept.1)));
-      };
-      agrees = a.agrees on;
-      fits = a.fits on;
-      meant = λ self. ap (λ ks. sliced (text_of p) self (term_of p ks)) st
-          ∙ slice_then_asks (text_of p) self n (term_of p (stood hs k s.over)) (term_of p (stood hs d o)) (term_of p (stood hs e o)) c.asks_call.new.asked
-          (subst (λ (t : Term). GoesIn (text_of p) self n (term_of p (stood hs k s.over)) t) (ap (term_of p) (sym same)) (by.goes self))
-          (a.within on) (a.asks on self) (a.something on);
-    }
+pub returns-in-Asks-clause-begins : goal.returns-in-Asks-clause-begins
+returns-in-Asks-clause-begins c =
+    let b = c.still.new in
+    runs_as c.args.program.now 1000 b.journal b.asked c.args.stack.now b.stack c.in-Asks.is c.in-Some.ensures.begun
 
 pub returns-in-Ok-clause-begins : goal.returns-in-Ok-clause-begins
 returns-in-Ok-clause-begins c =
-    let p = c.args.program.now in
-    let s = c.stack.inside in
-    let hs = s.below in
-    let k = c.in-Some.call in
-    let d = c.still_steps.new.call in
-    let e = c.asks_call.new.call in
-    let o = c.asks_over.new.over in
-    let n = c.in-Some-still_steps.done in
-    let by = c.in-Some-still_steps.ensures in
-    let stays = c.asks_over.ensures.stays c.if-asks_over.false in
-    let kept = c.asks_call.ensures.stays c.if-asks_call.false in
-    let st : c.args.stack.now ≡ stood hs k s.over = sym c.stack.view_is ∙ ap (λ (o : Option Call). topped (called hs o) s.over) c.in-Some.is in
-    let same : stood hs e o ≡ stood hs d c.still_steps.new.over = ap (λ (x : Call). stood hs x o) kept.0 ∙ ap (stood hs d) stays.0 in
+    let b = c.still.new in
+    let h = runs_as c.args.program.now 1000 b.journal b.asked c.args.stack.now b.stack c.in-Goes.is c.in-Some.ensures.begun in
     record {
-      spare_is = c.in-Ok.ensures.ok ∙ ap (stack_before hs c.still_steps.new.journal) kept.0 ∙ by.undone ∙ sym st;
-      asks = kept.1 ∙ stays.1 ∙ c.requires.nothing;
-      fits = subst (StackFits p) (sym same) by.fits;
-      within = by.within;
-      goes = λ self.
-          subst (λ (t : Term). GoesIn (text_of p) self n t (term_of p (stood hs e o))) (ap (term_of p) (sym st))
-          (subst (λ (t : Term). GoesIn (text_of p) self n (term_of p (stood hs k s.over)) t) (ap (term_of p) (sym same)) (by.goes self));
+      spare_is = c.in-Ok.ensures.ok c.args.stack.now h.noted;
+      asks = h.asks;
+      fits = h.fits;
+      within = h.within;
+      goes = h.goes;
     }
 
 pub returns-in-Err-clause-err : goal.returns-in-Err-clause-err
 returns-in-Err-clause-err c =
-    let s = c.stack.inside in
-    let hs = s.below in
-    let k = c.in-Some.call in
-    let e = c.asks_call.new.call in
-    let by = c.in-Some-still_steps.ensures in
-    let stays = c.asks_over.ensures.stays c.if-asks_over.false in
-    let kept = c.asks_call.ensures.stays c.if-asks_call.false in
-    let back = c.put_back.ensures in
-    let j = c.copy_before.new.journal in
-    let st : c.args.stack.now ≡ stood hs k s.over = sym c.stack.view_is ∙ ap (λ (o : Option Call). topped (called hs o) s.over) c.in-Some.is in (
-      ap (λ (o : Option Entry). stood hs c.put_back.new.call o) back.over
-          ∙ ap (λ (h : PlainHeld). topped (hs ++ h ∷ []) (wrapped j.over)) back.call
-          ∙ ap (λ (x : Journal). stack_before hs x e) c.in-Err.ensures.err
-          ∙ ap (stack_before hs c.still_steps.new.journal) kept.0
-          ∙ by.undone ∙ sym st,
-      kept.1 ∙ stays.1 ∙ c.requires.nothing,
-    )
+    let b = c.still.new in
+    let h = runs_as c.args.program.now 1000 b.journal b.asked c.args.stack.now b.stack c.in-Goes.is c.in-Some.ensures.begun in
+    (c.undo_noted.ensures c.args.stack.now (subst (λ (j : Journal). IsNotedStack j b.stack c.args.stack.now) (sym c.in-Err.ensures.err) h.noted), h.asks)

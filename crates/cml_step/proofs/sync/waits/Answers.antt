@@ -1,6 +1,6 @@
 use Rattle.std.proofs.Common.{◌∷◌, ◌∙◌, ap, sym, false}
 use Rattle.cml_check.specs.Syntax.{effect_map, name_at}
-use Rattle.cml_check.specs.StmtViews.{plain_effect}
+use Rattle.cml_check.specs.Ops.{sync_effect}
 use Rattle.cml_step.specs.declared.call.Call.{Call}
 use Rattle.cml_step.specs.Calls.{call_at, text_of}
 use Rattle.cml_step.specs.Steps.{effect_step, pushed}
@@ -17,9 +17,9 @@ returns-clause-gives c = λ on self below.
     let old = c.args.call.now in
     let waiting = call_at f c.args.next old.slots.items c.args.wait in
     let kept : Call = record { func = old.func; at = c.args.next; slots = old.slots; wait = c.args.wait; asked = old.at } in
-    ap (λ ws. effect_step (text_of p) self (bound f.names ws) (effect_map (name_at f.names) (plain_effect c.args.effect.now)) (waiting ∷ below)) (sym c.as_slice.ensures.value)
-    ∙ c.event_of_effect.ensures.gives c.if-not-event_of_effect.false self (waiting ∷ below)
-    ∙ ap (λ t. pushed (force (event_over c.event_of_effect.new.over) false) (t ∷ below)) (sym (entry_there p f kept c.requires.function.1))
+    ap (λ ws. effect_step (text_of p) self (bound f.names ws) (effect_map (name_at f.names) (sync_effect c.args.offer.now)) (waiting ∷ below)) (sym c.as_slice.ensures.value)
+    ∙ c.sync_in.ensures.gives c.if-not-sync_in.false self (waiting ∷ below)
+    ∙ ap (λ t. pushed (force (event_over c.sync_in.new.over) false) (t ∷ below)) (sym (entry_there p f kept c.requires.function.1))
 
 pub returns-clause-fits : goal.returns-clause-fits
 returns-clause-fits c =
