@@ -10,3 +10,4 @@ pub mod Views
 pub mod Listing
 pub mod Local
 pub mod Broad
+pub mod Edges
