@@ -11,3 +11,4 @@ pub mod Listing
 pub mod Local
 pub mod Broad
 pub mod Edges
+pub mod Marking

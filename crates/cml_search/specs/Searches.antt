@@ -1,5 +1,5 @@
 -- What a search keeps.
-use Rattle.std.specs.Prelude.{◌≡◌, ℕ, ◌+◌, ◌<◌, ◌≤◌, Bool, true, List, [], ◌∷◌, ◌++◌, length, Some, option_and_then, slice_get, IfSome, ◌⊎◌}
+use Rattle.std.specs.Prelude.{◌≡◌, ℕ, ◌+◌, ◌<◌, ◌≤◌, Bool, true, List, [], ◌∷◌, ◌++◌, length, Some, option_and_then, slice_get, IfSome, Contains, ◌⊎◌}
 use Rattle.std.specs.List.{All}
 use Rattle.cml_search.specs.Systems.{System, run, IsReached, IsTerminal, IsFollowed, IsFollowedQuietly}
 

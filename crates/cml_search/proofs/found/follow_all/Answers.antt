@@ -1,4 +1,4 @@
-use Rattle.std.proofs.Common.{◌≡◌, ◌<◌, length, map, take, [], sym, subst, ◌∙◌, arith, append-nil}
+use Rattle.std.proofs.Common.{◌≡◌, ◌<◌, length, map, take, [], ◌∷◌, ◌++◌, sym, subst, ◌∙◌, arith, append-nil}
 use Rattle.std.specs.List.{All}
 use Rattle.std.proofs.lemmas.Option.{same_Some, slice_get_within}
 use Rattle.std.proofs.lemmas.List.{take_all}
@@ -94,3 +94,11 @@ returns-clause-some_edges g c =
     let y = g.Y.System.rules c.args.system.now in
     let f = g.Y.System.state_of c.args.system.now in
     λ q b. edges_none y q c.args.at (map f c.loop-item.found.kept.keys) c.loop-item.found.edges.items (take c.loop-item.item-index c.args.items.now) (c.loop-item.invariant.edges q b)
+
+pub returns-then-len-bound-clause-some_edges : goal.returns-then-len-bound-clause-some_edges
+returns-then-len-bound-clause-some_edges g c =
+    let y = g.Y.System.rules c.args.system.now in
+    let f = g.Y.System.state_of c.args.system.now in
+    let begun = take c.loop-item.item-index c.args.items.now in
+    λ q b. edges_none y q c.args.at (map f c.follow_edge.new.found.kept.keys) c.follow_edge.new.found.edges.items (begun ++ c.item-item.result ∷ [])
+    (c.in_ok-follow_edge.ensures.edges q begun (c.loop-item.invariant.edges q b))

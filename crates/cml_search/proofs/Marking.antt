@@ -1,0 +1,120 @@
+-- Marks at places, one more.
+use Rattle.std.proofs.Common.{◌≡◌, ℕ, zero, suc, ◌+◌, ◌<◌, Bool, true, false, not, cond, List, [], ◌∷◌, length, get_or, replicate, set, Some, slice_get, Contains, ◌⊎◌, inl, inr, refl, ap, sym, subst, ◌∙◌, arith, true≢false}
+use Rattle.std.specs.Prelude.{count_by, IfSome}
+use Rattle.std.specs.List.{All}
+use Rattle.std.proofs.lemmas.List.Elements.{All-contains}
+use Rattle.std.proofs.lemmas.List.Sums.{sum_by-set}
+use Rattle.std.proofs.lemmas.Option.{slice_get_within, get_or_from_slice_get, same_Some}
+use Rattle.cml_search.specs.Systems.{System, run, IsReached, IsTerminal, IsLawful, CanEnd}
+use Rattle.cml_search.specs.Searches.{Keeps, AreEnough, GoesOn, IsEdge, AreEdges}
+use Rattle.cml_search.specs.Marks.{IsMarked, IsClosed, AllCanEnd}
+use Rattle.cml_search.proofs.Runs.{at_some, begins, run-cons, reached_next}
+use Rattle.cml_search.proofs.Places.{all_at, place_of, there}
+
+pub set_here : (marks : List Bool) (k : ℕ) → k < length marks → IsMarked (set marks k true) k
+set_here [] k lt = absurd (omega (arith, lt))
+set_here (b ∷ marks) zero lt = refl
+set_here (b ∷ marks) (suc k) lt = set_here marks k (omega (arith, lt))
+
+pub set_keeps : (marks : List Bool) (k j : ℕ) → IsMarked marks j → IsMarked (set marks k true) j
+set_keeps [] k j h = h
+set_keeps (b ∷ marks) zero zero h = refl
+set_keeps (b ∷ marks) zero (suc j) h = h
+set_keeps (b ∷ marks) (suc k) zero h = h
+set_keeps (b ∷ marks) (suc k) (suc j) h = set_keeps marks k j h
+
+pub set_only : (marks : List Bool) (k j : ℕ) → IsMarked (set marks k true) j → IsMarked marks j ⊎ (j ≡ k)
+set_only [] k j h = inl h
+set_only (b ∷ marks) zero zero h = inr refl
+set_only (b ∷ marks) zero (suc j) h = inl h
+set_only (b ∷ marks) (suc k) zero h = inl h
+set_only (b ∷ marks) (suc k) (suc j) h = elim (set_only marks k j h) [ inl e ↦ inl e | inr e ↦ inr (ap suc e) ]
+
+pub none_marked : (n k : ℕ) → IsMarked (replicate n false) k → ⊥
+none_marked zero k h = cc
+none_marked (suc n) zero h = true≢false (sym (same_Some false true h))
+none_marked (suc n) (suc k) h = none_marked n k h
+
+-- one fewer is not marked
+pub one_fewer : (marks : List Bool) (k : ℕ) → k < length marks → get_or marks k true ≡ false → count_by not (set marks k true) + 1 ≡ count_by not marks
+one_fewer marks k lt e =
+    let step = sum_by-set (λ b. cond (not b) 1 0) marks k true true lt in
+    let was : cond (not (get_or marks k true)) 1 0 ≡ 1 = ap (λ b. cond (not b) 1 0) e in
+    omega (arith, step, was)
+
+-- a mark is there or not
+pub is_marked : (marks : List Bool) (k : ℕ) → k < length marks → IsMarked marks k ⊎ (slice_get marks k ≡ Some false)
+is_marked marks k lt = let t = there marks k lt in by t.0 t.1
+  where
+    by : (b : Bool) → slice_get marks k ≡ Some b → IsMarked marks k ⊎ (slice_get marks k ≡ Some false)
+    by true h = inl h
+    by false h = inr h
+
+module _ {S I : Type 0} (y : System S I) (states : List S) where
+  -- an end can be reached where an edge leads to a state from which one can
+  pub can_before : (marks : List Bool) (e : ℕ × I × ℕ) → IsEdge y states e → IsMarked marks e.2 → AllCanEnd y states marks → AllCanEnd y states (set marks e.0 true)
+  can_before marks e edge mark all k s h stands = by (set_only marks e.0 k h)
+    where
+      by : IsMarked marks k ⊎ (k ≡ e.0) → CanEnd y s
+      by (inl m) = all k s m stands
+      by (inr is) =
+          let on = all e.2 edge.to mark edge.there in
+          let same : edge.from ≡ s = same_Some edge.from s (sym edge.stands ∙ ap (slice_get states) (sym is) ∙ stands) in
+          subst (CanEnd y) same (e.1 ∷ on.0, on.1, run-cons y edge.from e.1 on.0 edge.to edge.leads ∙ on.2, on.3)
+
+  -- at an end nothing need be done
+  pub ends_can : (marks : List Bool) (ends : List ℕ) → ((k : ℕ) → IsMarked marks k → Contains ends k) → All (λ k. IfSome (slice_get states k) (IsTerminal y)) ends → AllCanEnd y states marks
+  ends_can marks ends only each k s h stands =
+      ([], s, refl, at_some (IsTerminal y) (slice_get states k) s stands (All-contains (λ j. IfSome (slice_get states j) (IsTerminal y)) ends k each (only k h)))
+
+  module _ (lawful : IsLawful y) (edges : List (ℕ × I × ℕ)) (marks : List Bool) (origins : List (ℕ × I)) (ends : List ℕ)
+      (keeps : Keeps y states origins) (graph : AreEdges y false (length states) states edges []) (closed : IsClosed edges marks)
+      (all : (k : ℕ) → IfSome (slice_get states k) (λ s. IsTerminal y s → Contains ends k)) (marked : All (IsMarked marks) ends) where
+    -- where an item leads
+    pub record Goes (k : ℕ) (s : S) (i : I) (t : S) : Type 0 where
+      pub to : ℕ
+      pub at : slice_get states to ≡ Some t
+      pub back : IsMarked marks to → IsMarked marks k
+
+    goes : (k : ℕ) (s : S) (i : I) (t : S) → slice_get states k ≡ Some s → y.step s i ≡ Some t → Goes k s i t
+    goes k s i t stands steps =
+        let r : IsReached y s = all_at (IsReached y) states k s keeps.reached stands in
+        let d = graph.done k s (slice_get_within states k s stands) stands in
+        let mine : Contains d.0 i = elim d.1 [
+          | inl e ↦ subst (λ l. Contains l i) (sym e) ((lawful.lists s r).only i t steps)
+          | inr q ↦ absurd (true≢false (sym q.1))
+        ] in
+        let on : GoesOn edges k i = All-contains (GoesOn edges k) d.0 i d.2 mine in
+        let edge : IsEdge y states (k, i, on.0) = All-contains (IsEdge y states) edges (k, i, on.0) graph.each on.1 in
+        let from : edge.from ≡ s = same_Some edge.from s (sym edge.stands ∙ stands) in
+        let to : edge.to ≡ t = same_Some edge.to t (sym edge.leads ∙ ap (λ u. y.step u i) from ∙ steps) in
+        record {
+          to = on.0;
+          at = edge.there ∙ ap (λ u. Some u) to;
+          back = All-contains (λ e. IsMarked marks e.2 → IsMarked marks e.0) edges (k, i, on.0) closed on.1;
+        }
+
+    -- from a state at a place that is not marked no end can be reached
+    pub no_end : (items : List I) (k : ℕ) (s t : S) → slice_get states k ≡ Some s → (IsMarked marks k → ⊥) → run y s items ≡ Some t → IsTerminal y t → ⊥
+    no_end [] k s t stands bare h stop =
+        let same : s ≡ t = same_Some s t h in
+        let has : Contains ends k = at_some (λ u. IsTerminal y u → Contains ends k) (slice_get states k) s stands (all k) (subst (IsTerminal y) (sym same) stop) in
+        bare (All-contains (IsMarked marks) ends k marked has)
+    no_end (i ∷ items) k s t stands bare h stop =
+        let b = begins y s i items t h in
+        let g = goes k s i b.next stands b.first in
+        no_end items g.to b.next t g.at (λ m. bare (g.back m)) b.rest stop
+
+    -- each state that is reached stands at a place
+    reached_at : (items : List I) (k : ℕ) (s t : S) → slice_get states k ≡ Some s → run y s items ≡ Some t → (j : ℕ) × (slice_get states j ≡ Some t)
+    reached_at [] k s t stands h = (k, stands ∙ h)
+    reached_at (i ∷ items) k s t stands h =
+        let b = begins y s i items t h in
+        let g = goes k s i b.next stands b.first in
+        reached_at items g.to b.next t g.at b.rest
+
+    -- where each place is marked, an end can be reached from each state
+    pub each_can : AllCanEnd y states marks → length marks ≡ length states → ((k : ℕ) → k < length marks → IsMarked marks k) → (s : S) → IsReached y s → CanEnd y s
+    each_can can len every s r =
+        let a = reached_at r.0 0 y.start s keeps.trail.start r.1 in
+        can a.0 s (every a.0 (omega (arith, len, slice_get_within states a.0 s a.1))) a.1

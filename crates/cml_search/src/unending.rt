@@ -1,0 +1,113 @@
+//! States from which no end can be reached.
+
+ghost use Rattle.std.specs.Prelude.{Contains, ◌≡◌, ◌<◌, ◌+◌, ℕ, false, [], Some, not, count_by, length, map, slice_get, IfNone, IfOk, IfSome};
+ghost use Rattle.std.specs.List.{All};
+ghost use Rattle.cml_search.specs.Systems.{IsReached, IsTerminal, CanEnd};
+ghost use Rattle.cml_search.specs.Searches.{IsSearch, IsEdge, AreEdges};
+ghost use Rattle.cml_search.specs.Marks.{IsMarked, AllCanEnd, IsClosed};
+
+use crate::found::Found;
+use crate::system::System;
+use std::alloc::{AllocError, Global};
+
+// A mark at each of these places, and at no other.
+fn marks_at(alloc: Global, count: usize, places: &[usize]) -> Result<Vec<bool>, AllocError>
+    requires { All (λ k. k < count) places.now }
+    ensures length { IfOk result (λ marks. length marks.items ≡ count) }
+    ensures each { IfOk result (λ marks. All (IsMarked marks.items) places.now) }
+    ensures only { IfOk result (λ marks. (k : ℕ) → IsMarked marks.items k → Contains places.now k) }
+{
+    let mut marks = vec![in alloc; false; count]?;
+    for place in places {
+        marks[*place] = true;
+    }
+    Ok(marks)
+}
+
+// Marks each place from which an edge leads to a marked one, the last edge first. Answers how many places were not marked before.
+fn mark_back<Y: System>(
+    _system: &Y,
+    found: &Found<Y::Kept, Y::Item>,
+    marks: &mut Vec<bool>,
+) -> usize
+    requires edges { All (IsEdge (Y.rules _system.now) (map (Y.state_of _system.now) found.now.kept.keys)) found.now.edges.items }
+    requires length { length marks.old.items ≡ length found.now.kept.keys }
+    ensures length { length marks.new.items ≡ length marks.old.items }
+    ensures keeps { (k : ℕ) → IsMarked marks.old.items k → IsMarked marks.new.items k }
+    ensures only { AllCanEnd (Y.rules _system.now) (map (Y.state_of _system.now) found.now.kept.keys) marks.old.items
+        → AllCanEnd (Y.rules _system.now) (map (Y.state_of _system.now) found.now.kept.keys) marks.new.items }
+    ensures fewer { count_by not marks.new.items + result ≡ count_by not marks.old.items }
+    ensures closed { result ≡ 0 → IsClosed found.now.edges.items marks.new.items }
+{
+    let mut count = 0;
+    let mut at = found.edges().len();
+    while at > 0 {
+        at -= 1;
+        let (from, _, to) = found.edges()[at];
+        if marks[to] && !marks[from] {
+            marks[from] = true;
+            count += 1;
+        }
+    }
+    count
+}
+
+// Marks the places from whose states an end can be reached, where these are the places of the ends.
+fn marked<Y: System>(
+    alloc: Global,
+    system: &Y,
+    found: &Found<Y::Kept, Y::Item>,
+    ends: &[usize],
+) -> Result<Vec<bool>, AllocError>
+    requires edges { All (IsEdge (Y.rules system.now) (map (Y.state_of system.now) found.now.kept.keys)) found.now.edges.items }
+    requires within { All (λ k. k < length found.now.kept.keys) ends.now }
+    requires each { All (λ k. IfSome (slice_get (map (Y.state_of system.now) found.now.kept.keys) k) (IsTerminal (Y.rules system.now))) ends.now }
+    ensures length { IfOk result (λ marks. length marks.items ≡ length found.now.kept.keys) }
+    ensures ends { IfOk result (λ marks. All (IsMarked marks.items) ends.now) }
+    ensures can { IfOk result (λ marks. AllCanEnd (Y.rules system.now) (map (Y.state_of system.now) found.now.kept.keys) marks.items) }
+    ensures closed { IfOk result (λ marks. IsClosed found.now.edges.items marks.items) }
+{
+    let mut marks = marks_at(alloc, found.kept().len(), ends)?;
+    let mut more = 1;
+    while more > 0 {
+        more = mark_back(system, found, &mut marks);
+    }
+    Ok(marks)
+}
+
+// The first place that is not marked, if there is one.
+fn first_unmarked(marks: &[bool]) -> Option<usize>
+    ensures some { IfSome result (λ k. slice_get marks.now k ≡ Some false) }
+    ensures none { IfNone result ((k : ℕ) → k < length marks.now → IsMarked marks.now k) }
+{
+    for k in 0..marks.len() {
+        if !marks[k] {
+            return Some(k);
+        }
+    }
+    None
+}
+
+/// The place of a state from which no end can be reached, if there is one, where the search went through all states, and these are the places
+/// of the ends. It is the first one.
+///
+/// # Errors
+/// Out of memory.
+pub fn without_end<Y: System>(
+    alloc: Global,
+    system: &Y,
+    found: &Found<Y::Kept, Y::Item>,
+    ends: &[usize],
+) -> Result<Option<usize>, AllocError>
+    requires search { IsSearch (Y.rules system.now) false (length found.now.kept.keys) (map (Y.state_of system.now) found.now.kept.keys) found.now.origins.items }
+    requires edges { AreEdges (Y.rules system.now) false (length found.now.kept.keys) (map (Y.state_of system.now) found.now.kept.keys) found.now.edges.items [] }
+    requires within { All (λ k. k < length found.now.kept.keys) ends.now }
+    requires each { All (λ k. IfSome (slice_get (map (Y.state_of system.now) found.now.kept.keys) k) (IsTerminal (Y.rules system.now))) ends.now }
+    requires all { (k : ℕ) → IfSome (slice_get (map (Y.state_of system.now) found.now.kept.keys) k) (λ s. IsTerminal (Y.rules system.now) s → Contains ends.now k) }
+    ensures some { IfOk result (λ place. IfSome place (λ k. (k < length found.now.kept.keys)
+        × IfSome (slice_get (map (Y.state_of system.now) found.now.kept.keys) k) (λ s. CanEnd (Y.rules system.now) s → ⊥))) }
+    ensures none { IfOk result (λ place. IfNone place ((s : Y.State) → IsReached (Y.rules system.now) s → CanEnd (Y.rules system.now) s)) }
+{
+    let marks = marked(alloc, system, found, ends)?;
+    Ok(first_unmarked(marks.as_slice()))
+}
