@@ -29,5 +29,6 @@ module _ {S I : Type 0} (y : System S I) where
       by None = refl
       by (Some s) = refl
 
-  pub back_all : (states : List S) (origins : List (ℕ × I)) (items : List I) (place : ℕ) → IsTrail y states origins → LeadsBack states items 0 place → run y y.start (reverse items) ≡ slice_get states place
+  pub back_all : (states : List S) (origins : List (ℕ × I)) (items : List I) (place : ℕ) → IsTrail y states origins → LeadsBack states items 0 place
+      → run y y.start (reverse items) ≡ slice_get states place
   back_all states origins items place t leads = ap (λ p. option_and_then (λ s. run y s (reverse items)) p) (sym t.start) ∙ leads

@@ -63,7 +63,8 @@ module _ (p : List (PlainItem ℕ)) (with_output : Bool) (schedule : List Item) 
       (here, leads_here, e ∙ ap (λ q. allowed (text_of q) (run_of h.course)) after.program ∙ sym (same_allowed (text_of p) with_output (past (text_of p) schedule) (run_of h.course)))
 
   -- an item that can come is allowed
-  pub comes_here : (item : Item) → LeadsTo (program_system (text_of p) with_output) schedule (λ s. IsSome ((program_system (text_of p) with_output).step s item)) → is_allowed h.course.world item ≡ false → ⊥
+  pub comes_here : (item : Item) → LeadsTo (program_system (text_of p) with_output) schedule (λ s. IsSome ((program_system (text_of p) with_output).step s item))
+      → is_allowed h.course.world item ≡ false → ⊥
   comes_here item can refused =
       let is : can.0 ≡ here = same_Some can.0 here (sym can.1 ∙ leads_here) in
       none_if with_output (more here.past (done_by (text_of p) (run_at here) item)) (is_allowed h.course.world item) (after_item (text_of p) (run_at here) item) refused

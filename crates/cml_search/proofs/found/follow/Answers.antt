@@ -63,10 +63,11 @@ returns-else-new-clause-keeps g c =
 
 pub returns-else-new-clause-longer : goal.returns-else-new-clause-longer
 returns-else-new-clause-longer g c =
-    let f = g.Y.System.state_of c.args.system.now in (
+    let f = g.Y.System.state_of c.args.system.now in
+    let keys = c.args.found.now.kept.keys in (
       [],
-      ap (map f) (was_there g.Y.Kept.PartialEq.eq c.args.found.now.kept.keys c.insert_full.new.self.keys c.in_ok-next.next c.in_ok-to.new c.in_ok-to.ensures.added c.in_ok-to.ensures.keys c.if-new.false)
-          ∙ sym (append-nil (map f c.args.found.now.kept.keys)),
+      ap (map f) (was_there g.Y.Kept.PartialEq.eq keys c.insert_full.new.self.keys c.in_ok-next.next c.in_ok-to.new c.in_ok-to.ensures.added c.in_ok-to.ensures.keys c.if-new.false)
+          ∙ sym (append-nil (map f keys)),
     )
 
 pub returns-else-new-clause-leads : goal.returns-else-new-clause-leads

@@ -13,7 +13,8 @@ loop-at-preserved g c =
     let t = c.requires.trail in
     let size = length-map c.args.found.now.kept.keys f in
     let o = c.index.result.now in
-    let here : slice_get origins (c.loop-at.at - 1) ≡ Some o = slice_get_read origins (length origins) (c.loop-at.at - 1) o refl (omega (arith, t.lengths, size, c.loop-at.invariant.within)) c.index.ensures in
+    let here : slice_get origins (c.loop-at.at - 1) ≡ Some o =
+    slice_get_read origins (length origins) (c.loop-at.at - 1) o refl (omega (arith, t.lengths, size, c.loop-at.invariant.within)) c.index.ensures in
     record {
       within = omega (arith, t.before (c.loop-at.at - 1) o here, c.loop-at.invariant.within);
       counts = λ d n.

@@ -9,8 +9,8 @@ loop-byte-preserved c =
     let xs = c.args.bytes.now in
     let at = c.loop-byte.byte-index in
     let before = c.loop-byte.all in
-    fold_next mix xs at c.byte-item.result before c.mixed-all.result (fold mix c.args.digest xs) (omega arith) c.byte-item.is
-    c.mixed-all.ensures c.loop-byte.invariant
+    fold_next mix xs at c.byte-item.result before c.with_byte-all.result (fold mix c.args.digest xs) (omega arith) c.byte-item.is
+    c.with_byte-all.ensures c.loop-byte.invariant
 
 pub returns : goal.returns
 returns c =

@@ -12,7 +12,8 @@ schedule_to-requires-clause-search c = rw (c.requires.any) c.requires.search
 pub loop-place-init : goal.loop-place-init
 loop-place-init c =
     let p = c.args.system.now.program in
-    told_none (program_system (text_of p) c.args.system.now.with_output) (map (core_kept p) c.args.found.now.kept.keys) c.args.places.now (map (λ schedule. schedule.items) c.new-schedules.result.items)
+    told_none (program_system (text_of p) c.args.system.now.with_output) (map (core_kept p) c.args.found.now.kept.keys) c.args.places.now
+    (map (λ schedule. schedule.items) c.new-schedules.result.items)
     (ap (map (λ schedule. schedule.items)) c.new-schedules.ensures.items)
 
 pub loop-place-preserved : goal.loop-place-preserved
