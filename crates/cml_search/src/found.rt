@@ -4,7 +4,7 @@ ghost use Rattle.std.specs.Prelude.{Contains, ◌≡◌, ◌<◌, ◌≤◌, ◌
 ghost use Rattle.std.specs.List.{All};
 ghost use Rattle.cml_search.specs.Systems.{run, IsReached, IsTerminal, IsSchedule, LeadsTo, LeadsInto};
 ghost use Rattle.indexmap.specs.IndexSet.{IsUnique};
-ghost use Rattle.cml_search.specs.Searches.{Depths, IsTrail, Keeps, AreEnough, WasFollowed, IsLonger, IsBroad, IsSearch, IsSought, AreFewest, AreEdges};
+ghost use Rattle.cml_search.specs.Searches.{Depths, IsTrail, Keeps, AreEnough, WasFollowed, IsLonger, IsBroad, IsSearch, IsSought, IsFoundBefore, AreFewest, AreEdges};
 
 use crate::system::{Gap, System};
 use indexmap::IndexSet;
@@ -338,11 +338,14 @@ pub fn schedule_to<Y: System>(
 }
 
 /// How far a search came that stopped at its bound: each state that it seeks, and to which a schedule of at most so many items leads, was
-/// found.
+/// found, and if they are fewer items it was followed.
 pub fn reach<Y: System>(_system: &Y, found: &Found<Y::Kept, Y::Item>) -> usize
     requires search { IsSearch (Y.rules _system.now) found.now.quietly found.now.followed (map (Y.state_of _system.now) found.now.kept.keys) found.now.origins.items }
     requires stopped { found.now.followed < length found.now.kept.keys }
-    ensures { (items : List Y.Item) (s : Y.State) → IsSought (Y.rules _system.now) found.now.quietly items s → length items ≤ result → Contains (map (Y.state_of _system.now) found.now.kept.keys) s }
+    ensures found { (items : List Y.Item) (s : Y.State) → IsSought (Y.rules _system.now) found.now.quietly items s → length items ≤ result
+        → Contains (map (Y.state_of _system.now) found.now.kept.keys) s }
+    ensures followed { (items : List Y.Item) (s : Y.State) → IsSought (Y.rules _system.now) found.now.quietly items s → length items < result
+        → IsFoundBefore (map (Y.state_of _system.now) found.now.kept.keys) found.now.followed s }
 {
     let mut count = 0;
     let mut at = found.followed;

@@ -1,7 +1,7 @@
 use Rattle.std.proofs.Common.{◌≡◌, ◌+◌, ◌-◌, length, map, slice_get, Some, refl, ap, sym, ◌∙◌, arith}
 use Rattle.std.proofs.lemmas.Option.{slice_get_read}
 use Rattle.std.proofs.lemmas.List.{length-map}
-use Rattle.cml_search.proofs.Broad.{found_within}
+use Rattle.cml_search.proofs.Broad.{found_within, followed_within}
 use Rattle.cml_search.proofs.found.reach.Goals as goal
 
 pub loop-at-preserved : goal.loop-at-preserved
@@ -21,9 +21,16 @@ loop-at-preserved g c =
           omega (arith, deep, before.counts d n);
     }
 
-pub returns : goal.returns
-returns g c =
+pub returns-clause-found : goal.returns-clause-found
+returns-clause-found g c =
     let found = c.args.found.now in
     let f = g.Y.System.state_of c.args._system.now in
     found_within (g.Y.System.rules c.args._system.now) (g.met.Y.System.lawful c.args._system.now) found.quietly found.followed (map f found.kept.keys) found.origins.items c.requires.search
+    (omega (arith, length-map found.kept.keys f, c.requires.stopped)) c.loop-at.count c.loop-at.at (omega arith) c.loop-at.invariant.counts
+
+pub returns-clause-followed : goal.returns-clause-followed
+returns-clause-followed g c =
+    let found = c.args.found.now in
+    let f = g.Y.System.state_of c.args._system.now in
+    followed_within (g.Y.System.rules c.args._system.now) (g.met.Y.System.lawful c.args._system.now) found.quietly found.followed (map f found.kept.keys) found.origins.items c.requires.search
     (omega (arith, length-map found.kept.keys f, c.requires.stopped)) c.loop-at.count c.loop-at.at (omega arith) c.loop-at.invariant.counts

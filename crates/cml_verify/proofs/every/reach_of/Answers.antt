@@ -8,7 +8,7 @@ pub returns-then-is_whole-clause-all : goal.returns-then-is_whole-clause-all
 returns-then-is_whole-clause-all c = λ items core within sought. c.requires.all (sym c.is_whole.ensures ∙ c.if-is_whole.true) core (items, sought.0)
 
 pub returns-clause-all : goal.returns-clause-all
-returns-clause-all c = λ items core within sought. (rw c.requires.any at c.reach.ensures) items core sought within
+returns-clause-all c = λ items core within sought. (rw c.requires.any at c.reach.ensures.found) items core sought within
 
 pub returns-clause-stopped : goal.returns-clause-stopped
 returns-clause-stopped c = sym c.is_whole.ensures ∙ c.if-is_whole.false
