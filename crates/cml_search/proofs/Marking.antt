@@ -5,9 +5,9 @@ use Rattle.std.specs.List.{All}
 use Rattle.std.proofs.lemmas.List.Elements.{All-contains}
 use Rattle.std.proofs.lemmas.List.Sums.{sum_by-set}
 use Rattle.std.proofs.lemmas.Option.{slice_get_within, get_or_from_slice_get, same_Some}
-use Rattle.cml_search.specs.Systems.{System, run, IsReached, IsTerminal, IsLawful, CanEnd}
+use Rattle.cml_search.specs.Systems.{System, run, IsReached, IsLawful, CanReach}
 use Rattle.cml_search.specs.Searches.{Keeps, AreEnough, GoesOn, IsEdge, AreEdges}
-use Rattle.cml_search.specs.Marks.{IsMarked, IsClosed, AllCanEnd}
+use Rattle.cml_search.specs.Marks.{IsMarked, IsClosed, ArePlacesOf, AllCanReach}
 use Rattle.cml_search.proofs.Runs.{at_some, begins, run-cons, reached_next}
 use Rattle.cml_search.proofs.Places.{all_at, place_of, there}
 
@@ -50,26 +50,26 @@ is_marked marks k lt = let t = there marks k lt in by t.0 t.1
     by true h = inl h
     by false h = inr h
 
-module _ {S I : Type 0} (y : System S I) (states : List S) where
-  -- an end can be reached where an edge leads to a state from which one can
-  pub can_before : (marks : List Bool) (e : ℕ × I × ℕ) → IsEdge y states e → IsMarked marks e.2 → AllCanEnd y states marks → AllCanEnd y states (set marks e.0 true)
+module _ {S I : Type 0} (y : System S I) (over : S → Bool) (states : List S) where
+  -- one can be reached where an edge leads to a state from which one can
+  pub can_before : (marks : List Bool) (e : ℕ × I × ℕ) → IsEdge y states e → IsMarked marks e.2 → AllCanReach y over states marks → AllCanReach y over states (set marks e.0 true)
   can_before marks e edge mark all k s h stands = by (set_only marks e.0 k h)
     where
-      by : IsMarked marks k ⊎ (k ≡ e.0) → CanEnd y s
+      by : IsMarked marks k ⊎ (k ≡ e.0) → CanReach y over s
       by (inl m) = all k s m stands
       by (inr is) =
           let on = all e.2 edge.to mark edge.there in
           let same : edge.from ≡ s = same_Some edge.from s (sym edge.stands ∙ ap (slice_get states) (sym is) ∙ stands) in
-          subst (CanEnd y) same (e.1 ∷ on.0, on.1, run-cons y edge.from e.1 on.0 edge.to edge.leads ∙ on.2, on.3)
+          subst (CanReach y over) same (e.1 ∷ on.0, on.1, run-cons y edge.from e.1 on.0 edge.to edge.leads ∙ on.2, on.3)
 
-  -- at an end nothing need be done
-  pub ends_can : (marks : List Bool) (ends : List ℕ) → ((k : ℕ) → IsMarked marks k → Contains ends k) → All (λ k. IfSome (slice_get states k) (IsTerminal y)) ends → AllCanEnd y states marks
-  ends_can marks ends only each k s h stands =
-      ([], s, refl, at_some (IsTerminal y) (slice_get states k) s stands (All-contains (λ j. IfSome (slice_get states j) (IsTerminal y)) ends k each (only k h)))
+  -- at such a state nothing need be done
+  pub over_can : (marks : List Bool) (places : List ℕ) → ((k : ℕ) → IsMarked marks k → Contains places k) → ArePlacesOf over states places → AllCanReach y over states marks
+  over_can marks places only are k s h stands =
+      ([], s, refl, at_some (λ u. over u ≡ true) (slice_get states k) s stands (All-contains (λ j. IfSome (slice_get states j) (λ u. over u ≡ true)) places k are.each (only k h)))
 
-  module _ (lawful : IsLawful y) (edges : List (ℕ × I × ℕ)) (marks : List Bool) (origins : List (ℕ × I)) (ends : List ℕ)
+  module _ (lawful : IsLawful y) (edges : List (ℕ × I × ℕ)) (marks : List Bool) (origins : List (ℕ × I)) (places : List ℕ)
       (keeps : Keeps y states origins) (graph : AreEdges y false (length states) states edges []) (closed : IsClosed edges marks)
-      (all : (k : ℕ) → IfSome (slice_get states k) (λ s. IsTerminal y s → Contains ends k)) (marked : All (IsMarked marks) ends) where
+      (are : ArePlacesOf over states places) (marked : All (IsMarked marks) places) where
     -- where an item leads
     pub record Goes (k : ℕ) (s : S) (i : I) (t : S) : Type 0 where
       pub to : ℕ
@@ -94,16 +94,16 @@ module _ {S I : Type 0} (y : System S I) (states : List S) where
           back = All-contains (λ e. IsMarked marks e.2 → IsMarked marks e.0) edges (k, i, on.0) closed on.1;
         }
 
-    -- from a state at a place that is not marked no end can be reached
-    pub no_end : (items : List I) (k : ℕ) (s t : S) → slice_get states k ≡ Some s → (IsMarked marks k → ⊥) → run y s items ≡ Some t → IsTerminal y t → ⊥
-    no_end [] k s t stands bare h stop =
+    -- from a state at a place that is not marked none can be reached
+    pub none_from : (items : List I) (k : ℕ) (s t : S) → slice_get states k ≡ Some s → (IsMarked marks k → ⊥) → run y s items ≡ Some t → over t ≡ true → ⊥
+    none_from [] k s t stands bare h stop =
         let same : s ≡ t = same_Some s t h in
-        let has : Contains ends k = at_some (λ u. IsTerminal y u → Contains ends k) (slice_get states k) s stands (all k) (subst (IsTerminal y) (sym same) stop) in
-        bare (All-contains (IsMarked marks) ends k marked has)
-    no_end (i ∷ items) k s t stands bare h stop =
+        let has : Contains places k = at_some (λ u. over u ≡ true → Contains places k) (slice_get states k) s stands (are.all k) (ap over same ∙ stop) in
+        bare (All-contains (IsMarked marks) places k marked has)
+    none_from (i ∷ items) k s t stands bare h stop =
         let b = begins y s i items t h in
         let g = goes k s i b.next stands b.first in
-        no_end items g.to b.next t g.at (λ m. bare (g.back m)) b.rest stop
+        none_from items g.to b.next t g.at (λ m. bare (g.back m)) b.rest stop
 
     -- each state that is reached stands at a place
     reached_at : (items : List I) (k : ℕ) (s t : S) → slice_get states k ≡ Some s → run y s items ≡ Some t → (j : ℕ) × (slice_get states j ≡ Some t)
@@ -113,8 +113,8 @@ module _ {S I : Type 0} (y : System S I) (states : List S) where
         let g = goes k s i b.next stands b.first in
         reached_at items g.to b.next t g.at b.rest
 
-    -- where each place is marked, an end can be reached from each state
-    pub each_can : AllCanEnd y states marks → length marks ≡ length states → ((k : ℕ) → k < length marks → IsMarked marks k) → (s : S) → IsReached y s → CanEnd y s
+    -- where each place is marked, one can be reached from each state
+    pub each_can : AllCanReach y over states marks → length marks ≡ length states → ((k : ℕ) → k < length marks → IsMarked marks k) → (s : S) → IsReached y s → CanReach y over s
     each_can can len every s r =
         let a = reached_at r.0 0 y.start s keeps.trail.start r.1 in
         can a.0 s (every a.0 (omega (arith, len, slice_get_within states a.0 s a.1))) a.1

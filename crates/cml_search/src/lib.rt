@@ -8,4 +8,4 @@ mod unending;
 
 pub use found::{Found, all_ends, all_states, ends_of, reach, schedule_to};
 pub use system::{Gap, System};
-pub use unending::without_end;
+pub use unending::cut_off;

@@ -1,10 +1,10 @@
-//! States from which no end can be reached.
+//! States from which none of some states can be reached.
 
-ghost use Rattle.std.specs.Prelude.{Contains, ◌≡◌, ◌<◌, ◌+◌, ℕ, false, [], Some, not, count_by, length, map, slice_get, IfNone, IfOk, IfSome};
+ghost use Rattle.std.specs.Prelude.{Contains, ◌≡◌, ◌<◌, ◌+◌, ℕ, Bool, false, [], Some, not, count_by, length, map, slice_get, IfNone, IfOk, IfSome};
 ghost use Rattle.std.specs.List.{All};
-ghost use Rattle.cml_search.specs.Systems.{IsReached, IsTerminal, CanEnd};
+ghost use Rattle.cml_search.specs.Systems.{IsReached, CanReach};
 ghost use Rattle.cml_search.specs.Searches.{IsSearch, IsEdge, AreEdges};
-ghost use Rattle.cml_search.specs.Marks.{IsMarked, AllCanEnd, IsClosed};
+ghost use Rattle.cml_search.specs.Marks.{IsMarked, IsClosed, ArePlacesOf, AllCanReach};
 
 use crate::found::Found;
 use crate::system::System;
@@ -34,8 +34,8 @@ fn mark_back<Y: System>(
     requires length { length marks.old.items ≡ length found.now.kept.keys }
     ensures length { length marks.new.items ≡ length marks.old.items }
     ensures keeps { (k : ℕ) → IsMarked marks.old.items k → IsMarked marks.new.items k }
-    ensures only { AllCanEnd (Y.rules _system.now) (map (Y.state_of _system.now) found.now.kept.keys) marks.old.items
-        → AllCanEnd (Y.rules _system.now) (map (Y.state_of _system.now) found.now.kept.keys) marks.new.items }
+    ensures only { (over : Y.State → Bool) → AllCanReach (Y.rules _system.now) over (map (Y.state_of _system.now) found.now.kept.keys) marks.old.items
+        → AllCanReach (Y.rules _system.now) over (map (Y.state_of _system.now) found.now.kept.keys) marks.new.items }
     ensures fewer { count_by not marks.new.items + result ≡ count_by not marks.old.items }
     ensures closed { result ≡ 0 → IsClosed found.now.edges.items marks.new.items }
 {
@@ -52,22 +52,22 @@ fn mark_back<Y: System>(
     count
 }
 
-// Marks the places from whose states an end can be reached, where these are the places of the ends.
+// Marks the places from whose states one at these places can be reached.
 fn marked<Y: System>(
     alloc: Global,
     system: &Y,
     found: &Found<Y::Kept, Y::Item>,
-    ends: &[usize],
+    places: &[usize],
 ) -> Result<Vec<bool>, AllocError>
     requires edges { All (IsEdge (Y.rules system.now) (map (Y.state_of system.now) found.now.kept.keys)) found.now.edges.items }
-    requires within { All (λ k. k < length found.now.kept.keys) ends.now }
-    requires each { All (λ k. IfSome (slice_get (map (Y.state_of system.now) found.now.kept.keys) k) (IsTerminal (Y.rules system.now))) ends.now }
+    requires within { All (λ k. k < length found.now.kept.keys) places.now }
     ensures length { IfOk result (λ marks. length marks.items ≡ length found.now.kept.keys) }
-    ensures ends { IfOk result (λ marks. All (IsMarked marks.items) ends.now) }
-    ensures can { IfOk result (λ marks. AllCanEnd (Y.rules system.now) (map (Y.state_of system.now) found.now.kept.keys) marks.items) }
+    ensures places { IfOk result (λ marks. All (IsMarked marks.items) places.now) }
+    ensures can { IfOk result (λ marks. (over : Y.State → Bool) → ArePlacesOf over (map (Y.state_of system.now) found.now.kept.keys) places.now
+        → AllCanReach (Y.rules system.now) over (map (Y.state_of system.now) found.now.kept.keys) marks.items) }
     ensures closed { IfOk result (λ marks. IsClosed found.now.edges.items marks.items) }
 {
-    let mut marks = marks_at(alloc, found.kept().len(), ends)?;
+    let mut marks = marks_at(alloc, found.kept().len(), places)?;
     let mut more = 1;
     while more > 0 {
         more = mark_back(system, found, &mut marks);
@@ -88,26 +88,26 @@ fn first_unmarked(marks: &[bool]) -> Option<usize>
     None
 }
 
-/// The place of a state from which no end can be reached, if there is one, where the search went through all states, and these are the places
-/// of the ends. It is the first one.
+/// The first place of a state from which none of the states at these places can be reached, if there is one; where the search went through all
+/// states.
 ///
 /// # Errors
 /// Out of memory.
-pub fn without_end<Y: System>(
+pub fn cut_off<Y: System>(
     alloc: Global,
     system: &Y,
     found: &Found<Y::Kept, Y::Item>,
-    ends: &[usize],
+    places: &[usize],
 ) -> Result<Option<usize>, AllocError>
     requires search { IsSearch (Y.rules system.now) false (length found.now.kept.keys) (map (Y.state_of system.now) found.now.kept.keys) found.now.origins.items }
     requires edges { AreEdges (Y.rules system.now) false (length found.now.kept.keys) (map (Y.state_of system.now) found.now.kept.keys) found.now.edges.items [] }
-    requires within { All (λ k. k < length found.now.kept.keys) ends.now }
-    requires each { All (λ k. IfSome (slice_get (map (Y.state_of system.now) found.now.kept.keys) k) (IsTerminal (Y.rules system.now))) ends.now }
-    requires all { (k : ℕ) → IfSome (slice_get (map (Y.state_of system.now) found.now.kept.keys) k) (λ s. IsTerminal (Y.rules system.now) s → Contains ends.now k) }
+    requires within { All (λ k. k < length found.now.kept.keys) places.now }
     ensures some { IfOk result (λ place. IfSome place (λ k. (k < length found.now.kept.keys)
-        × IfSome (slice_get (map (Y.state_of system.now) found.now.kept.keys) k) (λ s. CanEnd (Y.rules system.now) s → ⊥))) }
-    ensures none { IfOk result (λ place. IfNone place ((s : Y.State) → IsReached (Y.rules system.now) s → CanEnd (Y.rules system.now) s)) }
+        × ((over : Y.State → Bool) → ArePlacesOf over (map (Y.state_of system.now) found.now.kept.keys) places.now
+        → IfSome (slice_get (map (Y.state_of system.now) found.now.kept.keys) k) (λ s. CanReach (Y.rules system.now) over s → ⊥)))) }
+    ensures none { IfOk result (λ place. IfNone place ((over : Y.State → Bool) → ArePlacesOf over (map (Y.state_of system.now) found.now.kept.keys) places.now
+        → (s : Y.State) → IsReached (Y.rules system.now) s → CanReach (Y.rules system.now) over s)) }
 {
-    let marks = marked(alloc, system, found, ends)?;
+    let marks = marked(alloc, system, found, places)?;
     Ok(first_unmarked(marks.as_slice()))
 }
