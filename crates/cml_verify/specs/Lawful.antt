@@ -1,10 +1,10 @@
 -- The system of a program is as is promised of a system.
-use Rattle.std.specs.Prelude.{◌≡◌, ℕ, zero, suc, ◌<◌, Bool, true, false, not, ◌&&◌, List, [], ◌∷◌, ◌++◌, length, map, filter, is_some, Option, Some, None, option_map, if◌then◌else◌, Contains}
+use Rattle.std.specs.Prelude.{◌≡◌, ℕ, zero, suc, ◌<◌, Bool, true, false, not, ◌&&◌, List, [], ◌∷◌, ◌++◌, length, map, filter, is_some, IsSome, Option, Some, None, option_map, if◌then◌else◌, Contains}
 use Rattle.std.specs.List.{range_with_len}
 use Rattle.std.specs.Option.{option_map_or}
 use Rattle.std.proofs.Common.{slice_get, refl, ap, sym, ◌∙◌, arith, true≢false}
 use Rattle.std.proofs.lemmas.Bool.{eqb-true}
-use Rattle.std.proofs.lemmas.List.Elements.{Contains-append_left, Contains-append_right, filter_passes}
+use Rattle.std.proofs.lemmas.List.Elements.{All-weaker, Contains-append_left, Contains-append_right, filter_passes}
 use Rattle.std.proofs.lemmas.List.FromFn.{get_or-range_with_len, length-range_with_len}
 use Rattle.std.proofs.lemmas.Option.{slice_get_within, same_Some}
 use Rattle.cml_scan.specs.World.{PlainWorld, PlainThread}
@@ -18,7 +18,7 @@ use Rattle.cml_hub.specs.Runs.{Run, after_item, is_allowed, advance, next_alarm,
 use Rattle.cml_hub.proofs.RowLemmas.{row_there}
 use Rattle.cml_search.specs.Systems.{ListsAllowed, IsLawful}
 use Rattle.cml_search.proofs.Places.{mapped_has, place_of}
-use Rattle.cml_verify.specs.Cores.{more, Core, core_of, run_at, done_by, can, turns, alarm_of, candidates, allowed, program_system}
+use Rattle.cml_verify.specs.Cores.{more, Core, core_of, run_at, core_step, done_by, can, turns, alarm_of, candidates, allowed, program_system}
 
 -- what passes the test stays
 module _ {X : Type 0} (test : X → Bool) where
@@ -83,7 +83,8 @@ among w (Clock tick) h =
 
 lists : (p : Program) (with_output : Bool) (c : Core) → ListsAllowed (program_system p with_output) c
 lists p with_output c = record {
-  each = λ k i lt. mapped (after i) (advance p r i) ∙ filter_passes (can p r) (candidates c.world) k i lt;
+  each = All-weaker (λ i. can p r i ≡ true) (λ i. IsSome (core_step p with_output c i)) (λ i h. mapped (after i) (advance p r i) ∙ h) (allowed p r)
+      (filter_passes (can p r) (candidates c.world));
   only = λ i t h. by i (sym (mapped (after i) (advance p r i)) ∙ ap is_some h);
 }
   where

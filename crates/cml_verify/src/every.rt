@@ -85,12 +85,7 @@ fn count_of(found: &Found<Kept, Item>) -> usize
 }
 
 // Examines every schedule of the program, up to so many states. It is looked at what was printed, or not.
-fn examine(
-    alloc: Global,
-    program: &Prog,
-    with_output: bool,
-    bound: usize,
-) -> Result<Verdict, Gap>
+fn examine(alloc: Global, program: &Prog, with_output: bool, bound: usize) -> Result<Verdict, Gap>
     requires { 0 < bound }
     ensures { IfOk result (λ v. IsVerdict program.now with_output bound v.reach (map (λ schedule. schedule.items) v.ends.items) v.states) }
 {

@@ -43,11 +43,11 @@ impl Model for Kept {
     ghost coded = { state_code };
 
     ghost view = { λ k. record {
-        world = k.world;
-        machines = k.machines.items;
-        began = k.began.items;
-        faults = k.faults;
-        printed = option_map (λ bytes. bytes.items) k.printed;
+      world = k.world;
+      machines = k.machines.items;
+      began = k.began.items;
+      faults = k.faults;
+      printed = option_map (λ bytes. bytes.items) k.printed;
     } };
 
     ghost invariant = { λ k. (k.ends ≡ terminal k.world) × (k.digest ≡ printed_mixed (digest_at k.world k.machines.items) (option_map (λ bytes. bytes.items) k.printed)) };
@@ -190,11 +190,7 @@ fn all_origins(alloc: Global, hub: &Hub) -> Result<Vec<FnRef>, AllocError>
 }
 
 // What is seen of what a hub has printed.
-fn printed_by(
-    alloc: Global,
-    hub: &Hub,
-    with_output: bool,
-) -> Result<Option<Vec<u8>>, AllocError>
+fn printed_by(alloc: Global, hub: &Hub, with_output: bool) -> Result<Option<Vec<u8>>, AllocError>
     ensures { IfOk result (λ printed. option_map (λ bytes. bytes.items) printed ≡ seen with_output hub.now.course.output) }
 {
     if !with_output {

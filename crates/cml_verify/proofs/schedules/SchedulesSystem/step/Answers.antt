@@ -4,7 +4,7 @@ use Rattle.cml_verify.proofs.schedules.SchedulesSystem.step.Goals as goal
 pub unreachable-requires : goal.unreachable-requires
 unreachable-requires c =
     comes_here c.args.self.now.program c.args.self.now.with_output c.args.schedule.now c.in_ok-hub.hub c.in_ok-hub.ensures c.args.item c.requires
-        (rw c.if-not-came.true at c.in_ok-came.ensures.ok.course).0
+    (rw c.if-not-came.true at c.in_ok-came.ensures.ok.course).0
 
 pub returns : goal.returns
 returns c =
