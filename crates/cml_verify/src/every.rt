@@ -8,12 +8,13 @@ ghost use Rattle.cml_step.specs.Calls.{text_of};
 ghost use Rattle.cml_verify.specs.{Cores.{Core, program_system}, Ends.{AreSchedulesTo}, Kept.{core_kept}, Placed.{AreThreadsIn}, Verdicts.{IsWithin, IsVerdict}};
 
 use crate::ends::places_of_ends;
+use crate::faults::{Failing, all_faults};
 use crate::kept::Kept;
 use crate::placed::are_placed;
 use crate::schedules::Schedules;
 use cml_check::Prog;
 use cml_hub::Item;
-use cml_search::{Found, Gap, all_states, reach, schedule_to};
+use cml_search::{Found, Gap, all_states, cut_off, reach, schedule_to};
 use std::alloc::Global;
 
 /// What a search of every schedule found.
@@ -24,6 +25,10 @@ pub struct Verdict {
     pub ends: Vec<Vec<Item>>,
     /// How many states were found, no two of them the same.
     pub states: usize,
+    /// The faults at which threads end, by thread and line, each with a schedule to where it comes.
+    pub faults: Vec<Failing>,
+    /// A schedule that never ends, whatever comes behind it, if every schedule was examined and there is one.
+    pub unending: Option<Vec<Item>>,
     /// Nothing, if every schedule was examined. Else the bound was reached, and the schedules of at most so many items were examined.
     pub reach: Option<usize>,
 }
@@ -77,6 +82,34 @@ fn all_placed(program: &Prog, kept: &[Kept]) -> bool
     true
 }
 
+// A schedule to a state from which no end is reached, if every schedule was examined and there is one.
+fn unending_of(
+    alloc: Global,
+    system: &Schedules,
+    found: &Found<Kept, Item>,
+    ends: &[usize],
+) -> Result<Option<Vec<Item>>, Gap>
+    requires search { IsSearch (program_system (text_of system.now.program) system.now.with_output) false found.now.followed (map (core_kept system.now.program) found.now.kept.keys) found.now.origins.items }
+    requires edges { AreEdges (program_system (text_of system.now.program) system.now.with_output) false found.now.followed (map (core_kept system.now.program) found.now.kept.keys) found.now.edges.items [] }
+    requires any { found.now.quietly ≡ false }
+    requires whole { IsTrue found.now.whole → found.now.followed ≡ length found.now.kept.keys }
+    requires within { All (λ k. k < length found.now.kept.keys) ends.now }
+    requires are { ArePlacesOf is_over (map (core_kept system.now.program) found.now.kept.keys) ends.now }
+    ensures some { IfOk result (λ told. IfSome told (λ schedule. NeverEnds (text_of system.now.program) schedule.items)) }
+    ensures none { IfOk result (λ told. IsTrue found.now.whole → IfNone told (CanAlwaysEnd (text_of system.now.program))) }
+{
+    if !found.is_whole() {
+        return Ok(None);
+    }
+    match cut_off(alloc, system, found, ends)? {
+        Some(place) => {
+            let schedule = schedule_to(alloc, system, found, place)?;
+            Ok(Some(schedule))
+        }
+        None => Ok(None),
+    }
+}
+
 // How many states were found.
 fn count_of(found: &Found<Kept, Item>) -> usize
     ensures { result ≡ length found.now.kept.keys }
@@ -104,9 +137,13 @@ fn examine(alloc: Global, program: &Prog, with_output: bool, bound: usize) -> Re
     let ends = schedules_to(alloc, &system, &found, told)?;
     let states = count_of(&found);
     let reach = reach_of(&system, &found);
+    let faults = all_faults(alloc, &system, &found)?;
+    let unending = unending_of(alloc, &system, &found, told)?;
     Ok(Verdict {
         ends,
         states,
+        faults,
+        unending,
         reach,
     })
 }
