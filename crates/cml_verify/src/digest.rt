@@ -154,18 +154,12 @@ pub(crate) fn digest_of(world: &World, machines: &[Machine]) -> u64
     with_machines(messages, machines)
 }
 
-fn with_byte(digest: u64, byte: &u8) -> u64
-    ensures { result ≡ mix digest byte.now }
-{
-    mixed(digest, u64::from(*byte))
-}
-
 fn with_bytes(digest: u64, bytes: &[u8]) -> u64
     ensures { result ≡ fold mix digest bytes.now }
 {
     let mut all = digest;
     for byte in bytes {
-        all = with_byte(all, byte);
+        all = mixed(all, u64::from(*byte));
     }
     all
 }

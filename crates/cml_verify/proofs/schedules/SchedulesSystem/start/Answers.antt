@@ -14,4 +14,4 @@ returns c =
     (keeps_here p o [] c.in_ok-hub.hub c.in_ok-hub.ensures c.in_ok-kept.kept c.in_ok-kept.ensures))
 
 pub hub_after-requires : goal.hub_after-requires
-hub_after-requires c = (c.args.self.now.with_output, core_of c.args.self.now.with_output (past (text_of c.args.self.now.program) []) (opening (text_of c.args.self.now.program)), refl, tt)
+hub_after-requires c = (c.args.self.now.with_output, (core_of c.args.self.now.with_output (past (text_of c.args.self.now.program) []) (opening (text_of c.args.self.now.program)), refl, tt))

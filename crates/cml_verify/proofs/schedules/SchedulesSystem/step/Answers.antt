@@ -12,4 +12,4 @@ returns c =
     (rw c.if-not-came.false at c.in_ok-came.ensures.ok.course) c.in_ok-kept.ensures
 
 pub hub_after-requires : goal.hub_after-requires
-hub_after-requires c = (c.args.self.now.with_output, c.requires.0, c.requires.1, tt)
+hub_after-requires c = (c.args.self.now.with_output, (c.requires.0, c.requires.1, tt))
