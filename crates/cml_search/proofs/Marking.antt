@@ -1,8 +1,10 @@
 -- Marks at places, one more.
-use Rattle.std.proofs.Common.{◌≡◌, ℕ, zero, suc, ◌+◌, ◌<◌, Bool, true, false, not, cond, List, [], ◌∷◌, length, get_or, replicate, set, Some, slice_get, Contains, ◌⊎◌, inl, inr, refl, ap, sym, subst, ◌∙◌, arith, true≢false}
+use Rattle.std.proofs.Common.{◌≡◌, ℕ, zero, suc, ◌+◌, ◌<◌, ◌≤◌, Bool, true, false, not, cond, List, [], ◌∷◌, length, drop, take, get_or, replicate, set, Some}
+use Rattle.std.proofs.Common.{slice_get, Contains, ◌⊎◌, inl, inr, refl, ap, sym, subst, ◌∙◌, arith, drop-cons, length-set, true≢false}
 use Rattle.std.specs.Prelude.{count_by, IfSome}
 use Rattle.std.specs.List.{All}
-use Rattle.std.proofs.lemmas.List.Elements.{All-contains}
+use Rattle.std.proofs.lemmas.List.{drop_all}
+use Rattle.std.proofs.lemmas.List.Elements.{All-contains, All-nil, All-cons, All-more, All-weaker}
 use Rattle.std.proofs.lemmas.List.Sums.{sum_by-set}
 use Rattle.std.proofs.lemmas.Option.{slice_get_within, get_or_from_slice_get, same_Some}
 use Rattle.cml_search.specs.Systems.{System, run, IsReached, IsLawful, CanReach}
@@ -118,3 +120,91 @@ module _ {S I : Type 0} (y : System S I) (over : S → Bool) (states : List S) w
     each_can can len every s r =
         let a = reached_at r.0 0 y.start s keeps.trail.start r.1 in
         can a.0 s (every a.0 (omega (arith, len, slice_get_within states a.0 s a.1))) a.1
+
+-- edges, one more
+module _ {S I : Type 0} (y : System S I) (states : List S) (edges : List (ℕ × I × ℕ)) where
+  -- what a walk back over the edges behind a place keeps
+  pub record WalksBack (old : List Bool) (at count : ℕ) (marks : List Bool) : Type 0 where
+    pub within : at ≤ length edges
+    pub size : length marks ≡ length old
+    pub keeps : (k : ℕ) → IsMarked old k → IsMarked marks k
+    pub only : (over : S → Bool) → AllCanReach y over states old → AllCanReach y over states marks
+    pub fewer : count_by not marks + count ≡ count_by not old
+    pub closed : count ≡ 0 → IsClosed (drop at edges) marks
+
+  pub walk_begins : (old : List Bool) → WalksBack old (length edges) 0 old
+  walk_begins old = record {
+    within = omega arith;
+    size = refl;
+    keeps = λ k h. h;
+    only = λ over h. h;
+    fewer = omega arith;
+    closed = λ _. subst (λ l. IsClosed l old) (sym (drop_all (length edges) edges (omega arith))) (All-nil (λ e. IsMarked old e.2 → IsMarked old e.0));
+  }
+
+  module _ (each : All (IsEdge y states) edges) (old : List Bool) (at count : ℕ) (marks : List Bool) (e : ℕ × I × ℕ)
+      (w : WalksBack old (at + 1) count marks) (here : slice_get edges at ≡ Some e) where
+    edge : IsEdge y states e
+    edge = all_at (IsEdge y states) edges at e each here
+
+    next : drop at edges ≡ e ∷ drop (at + 1) edges
+    next =
+        let lt : at < length edges = slice_get_within edges at e here in
+        let one : suc at ≡ at + 1 = omega arith in
+        drop-cons edges at e lt ∙ ap (λ v. v ∷ drop (suc at) edges) (get_or_from_slice_get edges at e e here) ∙ ap (λ n. e ∷ drop n edges) one
+
+    -- a place was marked
+    pub walk_marks : (after : List Bool) → IsMarked marks e.2 → slice_get marks e.0 ≡ Some false → after ≡ set marks e.0 true → WalksBack old at (count + 1) after
+    walk_marks after mark bare is = subst (WalksBack old at (count + 1)) (sym is) (record {
+      within = omega (arith, w.within);
+      size = length-set marks e.0 true ∙ w.size;
+      keeps = λ k h. set_keeps marks e.0 k (w.keeps k h);
+      only = λ over h. can_before y over states marks e edge mark (w.only over h);
+      fewer =
+          let lt : e.0 < length marks = slice_get_within marks e.0 false bare in
+          let step = one_fewer marks e.0 lt (get_or_from_slice_get marks e.0 false true bare) in
+          omega (arith, step, w.fewer);
+      closed = λ z. absurd (omega (arith, z));
+    })
+
+    -- none was
+    pub walk_passes : (after : List Bool) → after ≡ marks → (IsMarked marks e.2 → IsMarked marks e.0) → WalksBack old at count after
+    walk_passes after is back = subst (WalksBack old at count) (sym is) (record {
+      within = omega (arith, w.within);
+      size = w.size;
+      keeps = w.keeps;
+      only = w.only;
+      fewer = w.fewer;
+      closed = λ z. subst (λ l. IsClosed l marks) (sym next)
+          (All-cons (λ f. IsMarked marks f.2 → IsMarked marks f.0) e (drop (at + 1) edges) back (w.closed z));
+    })
+
+-- marks at places, one place more
+pub record MarksAt (places : List ℕ) (count n : ℕ) (marks : List Bool) : Type 0 where
+  pub size : length marks ≡ count
+  pub each : All (IsMarked marks) (take n places)
+  pub only : (k : ℕ) → IsMarked marks k → Contains places k
+
+pub marks_none : (places : List ℕ) (count : ℕ) (marks : List Bool) → length marks ≡ count → marks ≡ replicate count false → MarksAt places count 0 marks
+marks_none places count marks size is = record {
+  size = size;
+  each = All-nil (IsMarked marks);
+  only = λ k h. absurd (none_marked count k (subst (λ l. IsMarked l k) is h));
+}
+
+pub marks_more : (places : List ℕ) (count n : ℕ) (marks after : List Bool) (place : ℕ) → MarksAt places count n marks → place < count → slice_get places n ≡ Some place
+    → after ≡ set marks place true → MarksAt places count (n + 1) after
+marks_more places count n marks after place m lt here is = subst (MarksAt places count (n + 1)) (sym is) (record {
+  size = length-set marks place true ∙ m.size;
+  each =
+      let in' : n < length places = slice_get_within places n place here in
+      let mine : IsMarked (set marks place true) (get_or places n place) =
+      subst (IsMarked (set marks place true)) (sym (get_or_from_slice_get places n place place here)) (set_here marks place (omega (arith, lt, m.size))) in
+      All-more (IsMarked (set marks place true)) places n place in'
+      (All-weaker (IsMarked marks) (IsMarked (set marks place true)) (λ k h. set_keeps marks place k h) (take n places) m.each) mine;
+  only = λ k h. by k (set_only marks place k h);
+})
+  where
+    by : (k : ℕ) → IsMarked marks k ⊎ (k ≡ place) → Contains places k
+    by k (inl h) = m.only k h
+    by k (inr h) = (n, slice_get_within places n place here, get_or_from_slice_get places n place k here ∙ sym h)

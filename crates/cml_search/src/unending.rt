@@ -1,6 +1,6 @@
 //! States from which none of some states can be reached.
 
-ghost use Rattle.std.specs.Prelude.{Contains, ◌≡◌, ◌<◌, ◌+◌, ℕ, Bool, false, [], Some, not, count_by, length, map, slice_get, IfNone, IfOk, IfSome};
+ghost use Rattle.std.specs.Prelude.{Contains, ◌≡◌, ◌<◌, ◌+◌, ℕ, Bool, true, false, [], Some, not, count_by, length, map, slice_get, slice_set, IfNone, IfOk, IfSome, IsTrue};
 ghost use Rattle.std.specs.List.{All};
 ghost use Rattle.cml_search.specs.Systems.{IsReached, CanReach};
 ghost use Rattle.cml_search.specs.Searches.{IsSearch, IsEdge, AreEdges};
@@ -24,6 +24,23 @@ fn marks_at(alloc: Global, count: usize, places: &[usize]) -> Result<Vec<bool>, 
     Ok(marks)
 }
 
+// Marks the one place, if the other is marked and it is not. Answers whether it did.
+fn mark_edge(marks: &mut Vec<bool>, from: usize, to: usize) -> bool
+    requires from { from < length marks.old.items }
+    requires to { to < length marks.old.items }
+    ensures marked { IsTrue result → IsMarked marks.old.items to × (slice_get marks.old.items from ≡ Some false) × (marks.new.items ≡ slice_set marks.old.items from true) }
+    ensures same { result ≡ false → (marks.new.items ≡ marks.old.items) × (IsMarked marks.old.items to → IsMarked marks.old.items from) }
+{
+    if !marks[to] {
+        return false;
+    }
+    if marks[from] {
+        return false;
+    }
+    marks[from] = true;
+    true
+}
+
 // Marks each place from which an edge leads to a marked one, the last edge first. Answers how many places were not marked before.
 fn mark_back<Y: System>(
     _system: &Y,
@@ -44,8 +61,7 @@ fn mark_back<Y: System>(
     while at > 0 {
         at -= 1;
         let (from, _, to) = found.edges()[at];
-        if marks[to] && !marks[from] {
-            marks[from] = true;
+        if mark_edge(marks, from, to) {
             count += 1;
         }
     }
