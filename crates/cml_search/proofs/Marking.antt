@@ -1,12 +1,12 @@
 -- Marks at places, one more.
-use Rattle.std.proofs.Common.{◌≡◌, ℕ, zero, suc, ◌+◌, ◌<◌, ◌≤◌, Bool, true, false, not, cond, List, [], ◌∷◌, length, drop, take, get_or, replicate, set, Some}
+use Rattle.std.proofs.Common.{◌≡◌, ℕ, zero, suc, ◌+◌, ◌<◌, ◌≤◌, Bool, true, false, not, cond, List, [], ◌∷◌, length, drop, take, get_or, replicate, set, Option, None, Some}
 use Rattle.std.proofs.Common.{slice_get, Contains, ◌⊎◌, inl, inr, refl, ap, sym, subst, ◌∙◌, arith, drop-cons, length-set, true≢false}
-use Rattle.std.specs.Prelude.{count_by, IfSome}
+use Rattle.std.specs.Prelude.{count_by, IfSome, IfNone}
 use Rattle.std.specs.List.{All}
 use Rattle.std.proofs.lemmas.List.{drop_all}
 use Rattle.std.proofs.lemmas.List.Elements.{All-contains, All-nil, All-cons, All-more, All-weaker}
 use Rattle.std.proofs.lemmas.List.Sums.{sum_by-set}
-use Rattle.std.proofs.lemmas.Option.{slice_get_within, get_or_from_slice_get, same_Some}
+use Rattle.std.proofs.lemmas.Option.{slice_get_within, get_or_from_slice_get, same_Some, IfSome_then}
 use Rattle.cml_search.specs.Systems.{System, run, IsReached, IsLawful, CanReach}
 use Rattle.cml_search.specs.Searches.{Keeps, AreEnough, GoesOn, IsEdge, AreEdges}
 use Rattle.cml_search.specs.Marks.{IsMarked, IsClosed, ArePlacesOf, AllCanReach}
@@ -41,16 +41,12 @@ none_marked (suc n) (suc k) h = none_marked n k h
 pub one_fewer : (marks : List Bool) (k : ℕ) → k < length marks → get_or marks k true ≡ false → count_by not (set marks k true) + 1 ≡ count_by not marks
 one_fewer marks k lt e =
     let step = sum_by-set (λ b. cond (not b) 1 0) marks k true true lt in
-    let was : cond (not (get_or marks k true)) 1 0 ≡ 1 = ap (λ b. cond (not b) 1 0) e in
+    let was : ◌≡◌ {A = ℕ} (cond (not (get_or marks k true)) 1 0) 1 = ap (λ b. cond (not b) 1 0) e in
     omega (arith, step, was)
 
--- a mark is there or not
-pub is_marked : (marks : List Bool) (k : ℕ) → k < length marks → IsMarked marks k ⊎ (slice_get marks k ≡ Some false)
-is_marked marks k lt = let t = there marks k lt in by t.0 t.1
-  where
-    by : (b : Bool) → slice_get marks k ≡ Some b → IsMarked marks k ⊎ (slice_get marks k ≡ Some false)
-    by true h = inl h
-    by false h = inr h
+none_then : {X P Q : Type 0} (o : Option X) → IfNone o P → (P → Q) → IfNone o Q
+none_then None h f = f h
+none_then (Some x) h f = tt
 
 module _ {S I : Type 0} (y : System S I) (over : S → Bool) (states : List S) where
   -- one can be reached where an edge leads to a state from which one can
@@ -120,6 +116,30 @@ module _ {S I : Type 0} (y : System S I) (over : S → Bool) (states : List S) w
     each_can can len every s r =
         let a = reached_at r.0 0 y.start s keeps.trail.start r.1 in
         can a.0 s (every a.0 (omega (arith, len, slice_get_within states a.0 s a.1))) a.1
+
+    -- none can be reached from the state at a place that is not marked
+    pub cut_at : (k : ℕ) → slice_get marks k ≡ Some false → IfSome (slice_get states k) (λ s. CanReach y over s → ⊥)
+    cut_at k bare = by (slice_get states k) refl
+      where
+        by : (o : Option S) → slice_get states k ≡ o → IfSome o (λ s. CanReach y over s → ⊥)
+        by None h = tt
+        by (Some s) h = λ can. none_from can.0 k s can.1 h (λ m. true≢false (same_Some true false (sym m ∙ bare))) can.2 can.3
+
+-- what is said of the first place that is not marked
+module _ {S I : Type 0} (y : System S I) (lawful : IsLawful y) (states : List S) (origins : List (ℕ × I)) (edges : List (ℕ × I × ℕ)) (marks : List Bool) (places : List ℕ)
+    (keeps : Keeps y states origins) (graph : AreEdges y false (length states) states edges []) (closed : IsClosed edges marks) (marked : All (IsMarked marks) places) where
+  pub some_cut : (n : ℕ) (o : Option ℕ) → length marks ≡ n → IfSome o (λ k. slice_get marks k ≡ Some false)
+      → IfSome o (λ k. (k < n) × ((over : S → Bool) → ArePlacesOf over states places → IfSome (slice_get states k) (λ s. CanReach y over s → ⊥)))
+  some_cut n o size h =
+      IfSome_then o h
+      (λ k bare.
+      let lt : k < length marks = slice_get_within marks k false bare in
+      (omega (arith, lt, size), λ over are. cut_at y over states lawful edges marks origins places keeps graph closed are marked k bare))
+
+  pub none_cut : (o : Option ℕ) → length marks ≡ length states → ((over : S → Bool) → ArePlacesOf over states places → AllCanReach y over states marks)
+      → IfNone o ((k : ℕ) → k < length marks → IsMarked marks k) → IfNone o ((over : S → Bool) → ArePlacesOf over states places → (s : S) → IsReached y s → CanReach y over s)
+  none_cut o size can h =
+      none_then o h (λ every over are s r. each_can y over states lawful edges marks origins places keeps graph closed are marked (can over are) size every s r)
 
 -- edges, one more
 module _ {S I : Type 0} (y : System S I) (states : List S) (edges : List (ℕ × I × ℕ)) where
@@ -208,3 +228,28 @@ marks_more places count n marks after place m lt here is = subst (MarksAt places
     by : (k : ℕ) → IsMarked marks k ⊎ (k ≡ place) → Contains places k
     by k (inl h) = m.only k h
     by k (inr h) = (n, slice_get_within places n place here, get_or_from_slice_get places n place k here ∙ sym h)
+
+-- marks, one walk more
+module _ {S I : Type 0} (y : System S I) (states : List S) (edges : List (ℕ × I × ℕ)) (places : List ℕ) (n : ℕ) where
+  pub record MarksSoFar (more : ℕ) (marks : List Bool) : Type 0 where
+    pub size : length marks ≡ n
+    pub marked : All (IsMarked marks) places
+    pub can : (over : S → Bool) → ArePlacesOf over states places → AllCanReach y over states marks
+    pub closed : more ≡ 0 → IsClosed edges marks
+
+  pub first_marks : (marks : List Bool) → length marks ≡ n → All (IsMarked marks) places → ((k : ℕ) → IsMarked marks k → Contains places k) → MarksSoFar 1 marks
+  first_marks marks size each only = record {
+    size = size;
+    marked = each;
+    can = λ over are. over_can y over states marks places only are;
+    closed = λ z. absurd (omega (arith, z));
+  }
+
+  pub more_marks : (more next : ℕ) (marks after : List Bool) → MarksSoFar more marks → length after ≡ length marks → ((k : ℕ) → IsMarked marks k → IsMarked after k)
+      → ((over : S → Bool) → AllCanReach y over states marks → AllCanReach y over states after) → (next ≡ 0 → IsClosed edges after) → MarksSoFar next after
+  more_marks more next marks after m size keeps only closed = record {
+    size = size ∙ m.size;
+    marked = All-weaker (IsMarked marks) (IsMarked after) keeps places m.marked;
+    can = λ over are. only over (m.can over are);
+    closed = closed;
+  }
