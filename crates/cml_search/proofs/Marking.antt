@@ -245,9 +245,9 @@ module _ {S I : Type 0} (y : System S I) (states : List S) (edges : List (ℕ ×
     closed = λ z. absurd (omega (arith, z));
   }
 
-  pub more_marks : (more next : ℕ) (marks after : List Bool) → MarksSoFar more marks → length after ≡ length marks → ((k : ℕ) → IsMarked marks k → IsMarked after k)
-      → ((over : S → Bool) → AllCanReach y over states marks → AllCanReach y over states after) → (next ≡ 0 → IsClosed edges after) → MarksSoFar next after
-  more_marks more next marks after m size keeps only closed = record {
+  pub more_marks : (more left : ℕ) (marks after : List Bool) → MarksSoFar more marks → length after ≡ length marks → ((k : ℕ) → IsMarked marks k → IsMarked after k)
+      → ((over : S → Bool) → AllCanReach y over states marks → AllCanReach y over states after) → (left ≡ 0 → IsClosed edges after) → MarksSoFar left after
+  more_marks more left marks after m size keeps only closed = record {
     size = size ∙ m.size;
     marked = All-weaker (IsMarked marks) (IsMarked after) keeps places m.marked;
     can = λ over are. only over (m.can over are);

@@ -13,7 +13,7 @@ loop-at-preserved-then-mark_edge g c =
     let at = c.loop-at.at - 1 in
     let e = c.index-edges-at.result in
     let lt : at < length edges = omega (arith, c.loop-at.invariant.within, c.loop-at-test.true) in
-    let here : slice_get edges at ≡ Some e = read_through c.edges-at.result.now edges at e c.edges-at.ensures lt c.index-edges-at.is in
+    let here : slice_get edges at ≡ Some e = read_through c.edges.result.now edges at e c.edges.ensures lt c.index-edges-at.is in
     let one : c.loop-at.at ≡ at + 1 = omega (arith, c.loop-at-test.true) in
     let m = c.mark_edge.ensures.marked c.if-mark_edge.true in
     walk_marks y states edges c.requires.edges old at c.loop-at.count marks e (subst (λ n. WalksBack y states edges old n c.loop-at.count marks) one c.loop-at.invariant) here
@@ -29,7 +29,7 @@ loop-at-preserved g c =
     let at = c.loop-at.at - 1 in
     let e = c.index-edges-at.result in
     let lt : at < length edges = omega (arith, c.loop-at.invariant.within, c.loop-at-test.true) in
-    let here : slice_get edges at ≡ Some e = read_through c.edges-at.result.now edges at e c.edges-at.ensures lt c.index-edges-at.is in
+    let here : slice_get edges at ≡ Some e = read_through c.edges.result.now edges at e c.edges.ensures lt c.index-edges-at.is in
     let one : c.loop-at.at ≡ at + 1 = omega (arith, c.loop-at-test.true) in
     let m = c.mark_edge.ensures.same c.if-mark_edge.false in
     walk_passes y states edges c.requires.edges old at c.loop-at.count marks e (subst (λ n. WalksBack y states edges old n c.loop-at.count marks) one c.loop-at.invariant) here
