@@ -1,11 +1,12 @@
 //! Every schedule of a program.
 
-ghost use Rattle.std.specs.Prelude.{◌≡◌, ◌<◌, List, IfOk, IfSome, IsTrue, true, false, Contains, length, map};
+ghost use Rattle.std.specs.Prelude.{◌≡◌, ◌<◌, ◌++◌, ◌∷◌, [], ℕ, List, Some, IfNone, IfOk, IfSome, IsTrue, true, false, Contains, length, map, option_map};
 ghost use Rattle.std.specs.List.{All};
 ghost use Rattle.cml_schedule.specs.declared.item.Item.{Item};
-ghost use Rattle.cml_search.specs.{Systems.{IsReached}, Searches.{IsSearch, IsSought}};
+ghost use Rattle.cml_search.specs.{Systems.{run, IsReached}, Searches.{IsSearch, IsSought, IsFoundBefore, AreEdges}, Marks.{ArePlacesOf}};
+ghost use Rattle.cml_hub.specs.Runs.{terminal};
 ghost use Rattle.cml_step.specs.Calls.{text_of};
-ghost use Rattle.cml_verify.specs.{Cores.{Core, program_system}, Ends.{AreSchedulesTo}, Kept.{core_kept}, Placed.{AreThreadsIn}, Verdicts.{IsWithin, IsVerdict}};
+ghost use Rattle.cml_verify.specs.{Cores.{Core, program_system}, Ends.{AreSchedulesTo}, Kept.{core_kept}, Placed.{AreThreadsIn}, Verdicts.{IsWithin, IsVerdict}, Faults.{turn_of, AreFaults, NeverEnds, CanAlwaysEnd, IsUnending}, Told.{plain_failing}};
 
 use crate::ends::places_of_ends;
 use crate::faults::{Failing, all_faults};
@@ -59,10 +60,15 @@ fn reach_of(system: &Schedules, found: &Found<Kept, Item>) -> Option<usize>
     requires search { IsSearch (program_system (text_of system.now.program) system.now.with_output) false found.now.followed (map (core_kept system.now.program) found.now.kept.keys) found.now.origins.items }
     requires any { found.now.quietly ≡ false }
     requires stopped { found.now.whole ≡ false → found.now.followed < length found.now.kept.keys }
+    requires whole { IsTrue found.now.whole → found.now.followed ≡ length found.now.kept.keys }
     requires all { IsTrue found.now.whole → (c : Core) → IsReached (program_system (text_of system.now.program) system.now.with_output) c → Contains (map (core_kept system.now.program) found.now.kept.keys) c }
     ensures all { (items : List Item) (c : Core) → IsWithin result items → IsSought (program_system (text_of system.now.program) system.now.with_output) false items c
         → Contains (map (core_kept system.now.program) found.now.kept.keys) c }
+    ensures followed { (items : List Item) (c : Core) (thread : ℕ) → IsWithin result (items ++ turn_of thread ∷ [])
+        → run (program_system (text_of system.now.program) system.now.with_output) (program_system (text_of system.now.program) system.now.with_output).start items ≡ Some c
+        → IsFoundBefore (map (core_kept system.now.program) found.now.kept.keys) found.now.followed c }
     ensures stopped { IfSome result (λ most. found.now.whole ≡ false) }
+    ensures whole { IfNone result (IsTrue found.now.whole) }
 {
     if found.is_whole() {
         return None;
@@ -94,7 +100,7 @@ fn unending_of(
     requires any { found.now.quietly ≡ false }
     requires whole { IsTrue found.now.whole → found.now.followed ≡ length found.now.kept.keys }
     requires within { All (λ k. k < length found.now.kept.keys) ends.now }
-    requires are { ArePlacesOf is_over (map (core_kept system.now.program) found.now.kept.keys) ends.now }
+    requires are { ArePlacesOf (λ c. terminal c.world) (map (core_kept system.now.program) found.now.kept.keys) ends.now }
     ensures some { IfOk result (λ told. IfSome told (λ schedule. NeverEnds (text_of system.now.program) schedule.items)) }
     ensures none { IfOk result (λ told. IsTrue found.now.whole → IfNone told (CanAlwaysEnd (text_of system.now.program))) }
 {
@@ -120,7 +126,9 @@ fn count_of(found: &Found<Kept, Item>) -> usize
 // Examines every schedule of the program, up to so many states. It is looked at what was printed, or not.
 fn examine(alloc: Global, program: &Prog, with_output: bool, bound: usize) -> Result<Verdict, Gap>
     requires { 0 < bound }
-    ensures { IfOk result (λ v. IsVerdict program.now with_output bound v.reach (map (λ schedule. schedule.items) v.ends.items) v.states) }
+    ensures verdict { IfOk result (λ v. IsVerdict program.now with_output bound v.reach (map (λ schedule. schedule.items) v.ends.items) v.states) }
+    ensures faults { IfOk result (λ v. AreFaults (text_of program.now) v.reach (map plain_failing v.faults.items)) }
+    ensures unending { IfOk result (λ v. IsUnending (text_of program.now) v.reach (option_map (λ schedule. schedule.items) v.unending)) }
 {
     let again = program.copy()?;
     let system = Schedules {
@@ -154,7 +162,9 @@ fn examine(alloc: Global, program: &Prog, with_output: bool, bound: usize) -> Re
 /// Out of memory; or a thread does not stand in the program, which does not come about.
 pub fn verify(alloc: Global, program: &Prog, bound: usize) -> Result<Verdict, Gap>
     requires { 0 < bound }
-    ensures { IfOk result (λ v. IsVerdict program.now false bound v.reach (map (λ schedule. schedule.items) v.ends.items) v.states) }
+    ensures verdict { IfOk result (λ v. IsVerdict program.now false bound v.reach (map (λ schedule. schedule.items) v.ends.items) v.states) }
+    ensures faults { IfOk result (λ v. AreFaults (text_of program.now) v.reach (map plain_failing v.faults.items)) }
+    ensures unending { IfOk result (λ v. IsUnending (text_of program.now) v.reach (option_map (λ schedule. schedule.items) v.unending)) }
 {
     examine(alloc, program, false, bound)
 }
@@ -166,7 +176,9 @@ pub fn verify(alloc: Global, program: &Prog, bound: usize) -> Result<Verdict, Ga
 /// Out of memory; or a thread does not stand in the program, which does not come about.
 pub fn outcomes(alloc: Global, program: &Prog, bound: usize) -> Result<Verdict, Gap>
     requires { 0 < bound }
-    ensures { IfOk result (λ v. IsVerdict program.now true bound v.reach (map (λ schedule. schedule.items) v.ends.items) v.states) }
+    ensures verdict { IfOk result (λ v. IsVerdict program.now true bound v.reach (map (λ schedule. schedule.items) v.ends.items) v.states) }
+    ensures faults { IfOk result (λ v. AreFaults (text_of program.now) v.reach (map plain_failing v.faults.items)) }
+    ensures unending { IfOk result (λ v. IsUnending (text_of program.now) v.reach (option_map (λ schedule. schedule.items) v.unending)) }
 {
     examine(alloc, program, true, bound)
 }
