@@ -3,7 +3,7 @@ use Rattle.std.proofs.Common.{◌≡◌, ℕ, ◌+◌, ◌<◌, ◌≤◌, Bool,
 use Rattle.std.proofs.Common.{◌⊎◌, inl, inr, refl, ap, sym, subst, ◌∙◌, arith, true≢false}
 use Rattle.std.specs.Prelude.{option_map, count_by, is_some, IfSome}
 use Rattle.std.specs.List.{All}
-use Rattle.std.proofs.lemmas.List.Elements.{All-contains}
+use Rattle.std.proofs.lemmas.List.Elements.{All-contains, Contains-append_left}
 use Rattle.std.proofs.lemmas.Option.{same_Some}
 use Rattle.cml_check.specs.Syntax.{PlainItem}
 use Rattle.cml_value.specs.declared.number.Tid.{Tid}
@@ -18,8 +18,9 @@ use Rattle.cml_hub.specs.Performed.{PlainDone, goes, gets, spawns, prints, waits
 use Rattle.cml_hub.specs.Runs.{Run, stands, is_allowed, after_item, advance, turned_by, output_of}
 use Rattle.cml_hub.specs.Deeds.{deed, after_deed, is_fault}
 use Rattle.cml_search.specs.Systems.{System, run, IsReached, LeadsTo}
-use Rattle.cml_search.specs.Searches.{AreEnough, GoesOn, AreEdges}
-use Rattle.cml_verify.specs.Cores.{Past, past, more, Core, core_of, run_at, done_by, core_step, program_system}
+use Rattle.cml_search.specs.Searches.{IsLonger, AreEnough, GoesOn, IsEdge, AreEdges}
+use Rattle.cml_search.proofs.Runs.{at_some}
+use Rattle.cml_verify.specs.Cores.{Past, past, more, Core, core_of, run_at, done_by, core_step, whose_turn, program_system}
 use Rattle.cml_verify.specs.Kept.{IsAfter}
 use Rattle.cml_verify.specs.Verdicts.{IsWithin}
 use Rattle.cml_verify.specs.Faults.{turn_of, Fails, EveryFaultIsTold}
@@ -161,3 +162,56 @@ module _ (p : Program) (s : Bool) (followed : ℕ) (states : List Core) (edges :
       let leads : run y y.start schedule ≡ Some (core_of s a h.run) = runs_core p s schedule ∙ ap (option_map (core_of s a)) h.leads in
       let k = found schedule (core_of s a h.run) thread within leads in
       noted_at k.0 a h.run schedule thread printed h.name k.1 k.2 leads h.comes h.fault h.line
+
+-- what was noted stays noted
+pub noted_longer : (p : Program) (s : Bool) (states : List Core) (old new : List (List Item × ℕ × List ℕ)) (e : ℕ × Item × ℕ) → IsLonger old new
+    → EdgeIsNoted p s states old e → EdgeIsNoted p s states new e
+noted_longer p s states old new e l h c thread stands owner f =
+    let n = h c thread stands owner f in
+    (n.0, n.1, (n.2.0, subst (λ m. Contains m (n.2.0, thread, n.0)) (sym l.1) (Contains-append_left old l.0 (n.2.0, thread, n.0) n.2.1)))
+
+-- by this edge no thread ends at a fault
+pub no_fault : (p : Program) (s : Bool) (states : List Core) (told : List (List Item × ℕ × List ℕ)) (e : ℕ × Item × ℕ) (edge : IsEdge (program_system p s) states e)
+    → edge.to.past.faults ≤ edge.from.past.faults → EdgeIsNoted p s states told e
+no_fault p s states told e edge few c thread at owner f =
+    let same : c ≡ edge.from = same_Some c edge.from (sym at ∙ edge.stands) in
+    let next : f.next ≡ edge.to = same_Some f.next edge.to (sym f.leads ∙ ap (λ x. core_step p s x e.1) same ∙ edge.leads) in
+    let a : c.past.faults ≡ edge.from.past.faults = ap (λ (x : Core). x.past.faults) same in
+    let b : f.next.past.faults ≡ edge.to.past.faults = ap (λ (x : Core). x.past.faults) next in
+    absurd (omega (arith, few, a, b, f.one_more))
+
+-- the item of the edge is no turn
+pub no_turn : (p : Program) (s : Bool) (states : List Core) (told : List (List Item × ℕ × List ℕ)) (e : ℕ × Item × ℕ) → whose_turn e.1 ≡ None → EdgeIsNoted p s states told e
+no_turn p s states told e is c thread at owner f = let g : None ≡ Some thread = sym is ∙ owner in absurd (cc)
+
+-- the item of the edge is a turn, whose fault was noted
+pub turn_noted : (p : Program) (s : Bool) (states : List Core) (told : List (List Item × ℕ × List ℕ)) (from to : ℕ) (thread : Tid)
+    → IfSome (slice_get states from) (λ c. IsNoted p told c thread.0) → EdgeIsNoted p s states told (from, Turn thread, to)
+turn_noted p s states told from to thread h c t at owner f =
+    let same : thread.0 ≡ t = same_Some thread.0 t owner in
+    subst (IsNoted p told c) same (at_some (λ x. IsNoted p told x thread.0) (slice_get states from) c at h)
+
+-- the item of the edge is a turn, at which its thread ends at a fault
+pub turn_fails : (p : Program) (s : Bool) (states : List Core) (from to : ℕ) (thread : Tid) (edge : IsEdge (program_system p s) states (from, Turn thread, to))
+    → edge.from.past.faults < edge.to.past.faults → IfSome (slice_get states from) (λ c. FailsBy p s c (turn_of thread.0))
+turn_fails p s states from to thread edge lt =
+    let At : Option Core → Type 0 = λ o. IfSome o (λ c. FailsBy p s c (turn_of thread.0)) in
+    subst At (sym edge.stands) (record { next = edge.to; leads = edge.leads; one_more = lt })
+
+-- the line that a turn prints, at the core to which the schedule leads
+pub line_at : (p : Program) (s : Bool) (schedule : List Item) (c : Core) (thread : ℕ) (printed : List ℕ) → run (program_system p s) (program_system p s).start schedule ≡ Some c
+    → Fails p schedule thread printed → IsLineAt p c thread printed
+line_at p s schedule c thread printed leads f =
+    let a = past p schedule in
+    let is : core_of s a f.run ≡ c = same_Some (core_of s a f.run) c (sym (runs_core p s schedule ∙ ap (option_map (core_of s a)) f.leads) ∙ leads) in
+    subst (λ x. IsLineAt p x thread printed) is (record { name = f.name; fault = f.fault; line = f.line })
+
+-- where a fault with this line is told, that of the turn is noted
+pub is_noted : (p : Program) (s : Bool) (states : List Core) (told : List (List Item × ℕ × List ℕ)) (place : ℕ) (schedule one : List Item) (thread : ℕ) (printed : List ℕ)
+    → run (program_system p s) (program_system p s).start schedule ≡ slice_get states place → Fails p schedule thread printed → Contains told (one, thread, printed)
+    → IfSome (slice_get states place) (λ c. IsNoted p told c thread)
+is_noted p s states told place schedule one thread printed leads f has = by (slice_get states place) refl
+  where
+    by : (o : Option Core) → slice_get states place ≡ o → IfSome o (λ c. IsNoted p told c thread)
+    by None h = tt
+    by (Some c) h = (printed, line_at p s schedule c thread printed (leads ∙ h) f, (one, has))
