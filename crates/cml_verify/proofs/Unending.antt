@@ -1,15 +1,22 @@
 -- Schedules that can not go on to an end.
-use Rattle.std.proofs.Common.{◌≡◌, ℕ, Bool, true, false, List, [], ◌∷◌, ◌++◌, length, map, Option, Some, None, refl, ap, sym, subst, ◌∙◌}
-use Rattle.std.specs.Prelude.{option_map}
-use Rattle.std.proofs.lemmas.Option.{same_Some}
+use Rattle.std.proofs.Common.{◌≡◌, ℕ, Bool, true, false, List, [], ◌∷◌, ◌++◌, length, map, Option, Some, None, slice_get, Contains, refl, ap, sym, subst, ◌∙◌}
+use Rattle.std.specs.Prelude.{option_map, IfSome, IfNone}
+use Rattle.std.specs.List.{All}
+use Rattle.std.proofs.lemmas.List.Elements.{All-weaker}
+use Rattle.std.proofs.lemmas.Option.{same_Some, slice_get-map, slice_get_within}
+use Rattle.cml_check.specs.Syntax.{PlainItem}
 use Rattle.cml_schedule.specs.declared.item.Item.{Item}
 use Rattle.cml_step.specs.Terms.{Program}
 use Rattle.cml_hub.specs.Runs.{Run, stands, terminal}
 use Rattle.cml_search.specs.Systems.{System, run, IsReached, CanReach}
+use Rattle.cml_search.specs.Marks.{ArePlacesOf}
 use Rattle.cml_search.proofs.Runs.{begins, run-cons}
 use Rattle.cml_verify.specs.Cores.{Core, past, core_of, program_system}
 use Rattle.cml_verify.specs.Verdicts.{RunEnd, EndsIn, HasEnd}
-use Rattle.cml_verify.specs.Faults.{NeverEnds, CanAlwaysEnd}
+use Rattle.cml_verify.specs.Ends.{IsEndAt, EachEndIsAmong}
+use Rattle.cml_verify.specs.Faults.{NeverEnds, CanAlwaysEnd, IsUnending}
+use Rattle.cml_verify.specs.Kept.{PlainKept, core_kept}
+use Rattle.cml_verify.proofs.Verdicts.{kept_behind}
 use Rattle.cml_verify.proofs.Viewed.{runs_core, run_behind}
 
 -- more items, from where the first ones lead
@@ -64,3 +71,34 @@ module _ (p : Program) (s : Bool) where
       let leads : run y y.start schedule ≡ Some c = runs_core p s schedule ∙ ap (option_map (core_of s (past p schedule))) h in
       let can = each c (schedule, leads) in
       (can.0, ends_there (schedule ++ can.0) can.1 (run_on y y.start schedule can.0 c leads ∙ can.2) can.3)
+
+-- the places at which ends are kept are those of the cores at which nothing is left to do
+pub are_places : (p : List (PlainItem ℕ)) (s : Bool) (keys : List PlainKept) (places : List ℕ) → All (IsEndAt keys) places → EachEndIsAmong keys places (length keys)
+    → ArePlacesOf (λ (c : Core). terminal c.world) (map (core_kept p) keys) places
+are_places p s keys places each among =
+    record {
+      each = All-weaker (IsEndAt keys) (λ k. IfSome (slice_get states k) (λ c. terminal c.world ≡ true)) (λ k a. at_end k a) places each;
+      all = λ k. by k (slice_get states k) refl;
+    }
+  where
+    states : List Core
+    states = map (core_kept p) keys
+
+    at_end : (k : ℕ) → IsEndAt keys k → IfSome (slice_get states k) (λ c. terminal c.world ≡ true)
+    at_end k a =
+        let here : slice_get states k ≡ Some (core_kept p a.one) = slice_get-map (core_kept p) keys k ∙ ap (option_map (core_kept p)) a.at in
+        let At : Option Core → Type 0 = λ o. IfSome o (λ c. terminal c.world ≡ true) in
+        subst At (sym here) a.over
+
+    by : (k : ℕ) (o : Option Core) → slice_get states k ≡ o → IfSome o (λ c. terminal c.world ≡ true → Contains places k)
+    by k None h = tt
+    by k (Some c) h = λ over.
+        let b = kept_behind p s keys k c h in
+        among k (slice_get_within keys k b.0 b.1) (record { one = b.0; at = b.1; over = ap (λ (x : Core). terminal x.world) b.2 ∙ over })
+
+-- what is said of the schedule that never ends
+pub unending_is : {V : Type 0} (f : V → List Item) (p : Program) (W : Type 0) (most : Option ℕ) (told : Option V) → IfSome told (λ v. NeverEnds p (f v)) → IfNone most W
+    → (W → IfNone told (CanAlwaysEnd p)) → IsUnending p most (option_map f told)
+unending_is f p W most (Some v) h n w = h
+unending_is f p W (Some m) None h n w = tt
+unending_is f p W None None h n w = w n
