@@ -1,4 +1,4 @@
--- The runs of a program, without what they have used, and what they have printed only where it is looked at, as a system whose schedules are
+-- The runs of a program, without what they have used, and with what they have printed only where that counts, as a system whose schedules are
 -- searched.
 use Rattle.std.specs.Prelude.{ℕ, Bool, false, List, [], ◌∷◌, ◌++◌, ◌+◌, length, map, filter, count_by, is_some, Option, Some, None, option_map, unwrap_or}
 use Rattle.std.specs.List.{range_with_len, filter_map}

@@ -12,7 +12,7 @@ use Rattle.cml_hub.specs.Runs.{Run, stands, terminal}
 use Rattle.cml_hub.specs.Deeds.{origins, fault_count}
 use Rattle.cml_verify.specs.Placed.{AreThreadsIn}
 
--- what is seen of what was printed: all of it, or, where it is not looked at, nothing
+-- what is seen of the output: all of it, or, where it does not count, nothing
 abbrev pub seen : Bool → List ℕ → Option (List ℕ)
 seen true output = Some output
 seen false output = None
@@ -83,7 +83,7 @@ abbrev pub CountsStates : List (PlainItem ℕ) → Bool → Option ℕ → ℕ �
 CountsStates p with_output most n = (states : List RunState) × AreStates p with_output most states × (length states ≡ n)
 
 -- What is promised of the schedules that are told, of how many states there are, and of how many items at most the schedules had that were
--- examined (nothing: all were), where the search stops once it has found more states than its bound. It is looked at what was printed, or not.
+-- examined (nothing: all were), where the search stops once it has found more states than its bound. The output counts, or not.
 pub record IsVerdict (p : List (PlainItem ℕ)) (with_output : Bool) (bound : ℕ) (most : Option ℕ) (told : List (List Item)) (states : ℕ) : Type 0 where
   pub each : All (HasEnd (text_of p) with_output) told
   pub all : EveryEndIsTold (text_of p) with_output most told

@@ -22,7 +22,7 @@ use std::alloc::Global;
 #[derive(Drop)]
 pub struct Verdict {
     /// Schedules that end, among them a shortest one to each end: to each world in which nothing is left to do, where threads stand so, began so,
-    /// as many ended at faults, and, if it is looked at, so much was printed.
+    /// as many ended at faults, and, if the output counts, this was printed.
     pub ends: Vec<Vec<Item>>,
     /// How many states were found, no two of them the same.
     pub states: usize,
@@ -123,7 +123,7 @@ fn count_of(found: &Found<Kept, Item>) -> usize
     found.kept().len()
 }
 
-// Examines every schedule of the program, up to so many states. It is looked at what was printed, or not.
+// Examines every schedule of the program, up to so many states. The output counts, or not.
 fn examine(alloc: Global, program: &Prog, with_output: bool, bound: usize) -> Result<Verdict, Gap>
     requires { 0 < bound }
     ensures verdict { IfOk result (λ v. IsVerdict program.now with_output bound v.reach (map (λ schedule. schedule.items) v.ends.items) v.states) }
@@ -156,7 +156,7 @@ fn examine(alloc: Global, program: &Prog, with_output: bool, bound: usize) -> Re
     })
 }
 
-/// Examines every schedule of the program, up to so many states. It is not looked at what was printed.
+/// Examines every schedule of the program, up to so many states. What was printed does not count.
 ///
 /// # Errors
 /// Out of memory; or a thread does not stand in the program, which does not come about.

@@ -19,7 +19,7 @@ use std::hash::{Hash, Hasher};
 use std::marker::Model;
 
 /// What is kept of a state: the world, the machine of each thread by its number, with which function each thread began, how many ended at a
-/// fault, and what was printed, if it is looked at. The digest of the world, the machines and the output, by which it is looked up, stands beside
+/// fault, and what was printed, if the output counts. The digest of the world, the machines and the output, by which it is looked up, stands beside
 /// them.
 #[derive(Drop)]
 pub struct Kept {

@@ -17,7 +17,7 @@ use std::alloc::{AllocError, Global};
 #[derive(Drop)]
 pub struct Schedules {
     pub(crate) program: Prog,
-    // Whether it is looked at what was printed.
+    // Whether the output counts: states with other outputs are other states.
     pub(crate) with_output: bool,
 }
 
