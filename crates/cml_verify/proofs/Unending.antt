@@ -36,17 +36,19 @@ module _ (p : Program) (s : Bool) where
   pub ends_there : (items : List Item) (c : Core) → run y y.start items ≡ Some c → is_over c ≡ true → HasEnd p false items
   ends_there items c h over =
       let b = run_behind s (past p items) (stands p items) c (sym (runs_core p s items) ∙ h) in
-      let e : RunEnd = record { world = c.world; terms = c.terms; began = c.past.began; faults = c.past.faults; printed = None } in
-      (e, record {
-        run = b.0;
-        leads = b.1;
-        world = ap (λ (x : Core). x.world) b.2;
-        terms = ap (λ (x : Core). x.terms) b.2;
-        began = ap (λ (x : Core). x.past.began) b.2;
-        faults = ap (λ (x : Core). x.past.faults) b.2;
-        printed = refl;
-        over = over;
-      })
+      let e : RunEnd = record { world = c.world; terms = c.terms; began = c.past.began; faults = c.past.faults; printed = None } in (
+        e,
+        record {
+          run = b.0;
+          leads = b.1;
+          world = ap (λ (x : Core). x.world) b.2;
+          terms = ap (λ (x : Core). x.terms) b.2;
+          began = ap (λ (x : Core). x.past.began) b.2;
+          faults = ap (λ (x : Core). x.past.faults) b.2;
+          printed = refl;
+          over = over;
+        },
+      )
 
   -- a schedule that ends leads to such a core
   pub over_there : (items : List Item) → HasEnd p false items → (c : Core) × (run y y.start items ≡ Some c) × (is_over c ≡ true)

@@ -99,11 +99,13 @@ returns-in_ok-push-clause-place g c =
     let f = g.Y.System.state_of c.args.system.now in
     let came = c.in_ok-next.ensures in
     let stored = c.in_ok-to.ensures.stored in
-    (came.0, came.1, step_to f (g.met.Y.System.same c.in_ok-next.next stored.0 stored.2) (g.Y.System.rules c.args.system.now) came.0 c.args.item c.insert_full.new.self.keys c.in_ok-to.to stored.1 came.2)
+    let y = g.Y.System.rules c.args.system.now in
+    (came.0, came.1, step_to f (g.met.Y.System.same c.in_ok-next.next stored.0 stored.2) y came.0 c.args.item c.insert_full.new.self.keys c.in_ok-to.to stored.1 came.2)
 
 pub returns-else-new-clause-place : goal.returns-else-new-clause-place
 returns-else-new-clause-place g c =
     let f = g.Y.System.state_of c.args.system.now in
     let came = c.in_ok-next.ensures in
     let stored = c.in_ok-to.ensures.stored in
-    (came.0, came.1, step_to f (g.met.Y.System.same c.in_ok-next.next stored.0 stored.2) (g.Y.System.rules c.args.system.now) came.0 c.args.item c.insert_full.new.self.keys c.in_ok-to.to stored.1 came.2)
+    let y = g.Y.System.rules c.args.system.now in
+    (came.0, came.1, step_to f (g.met.Y.System.same c.in_ok-next.next stored.0 stored.2) y came.0 c.args.item c.insert_full.new.self.keys c.in_ok-to.to stored.1 came.2)
