@@ -12,7 +12,7 @@ use Rattle.cml_hub.specs.Runs.{Run, opening, advance, next_alarm}
 use Rattle.cml_hub.specs.Performed.{PlainDone}
 use Rattle.cml_hub.specs.Deeds.{deed, after_deed, begotten, is_fault, origins, fault_count}
 use Rattle.cml_search.specs.Systems.{System}
-use Rattle.cml_verify.specs.Verdicts.{seen}
+use Rattle.cml_verify.specs.Verdicts.{output_if}
 
 -- what is known of the turns so far: with which function each thread began, and how many ended at a fault
 pub record Past : Type 0 where
@@ -35,7 +35,7 @@ pub record Core : Type 0 where
   pub printed : Option (List ℕ)
 
 abbrev pub core_of : Bool → Past → Run → Core
-core_of with_output a r = record { world = r.world; terms = r.terms; past = a; printed = seen with_output r.output }
+core_of with_output a r = record { world = r.world; terms = r.terms; past = a; printed = output_if with_output r.output }
 
 -- the run that stands so, has printed what is seen, and has used nothing
 abbrev pub run_at : Core → Run

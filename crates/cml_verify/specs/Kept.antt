@@ -16,7 +16,7 @@ use Rattle.cml_hub.specs.Runs.{stands}
 use Rattle.cml_hub.specs.Deeds.{origins, fault_count}
 use Rattle.cml_verify.specs.Cores.{Core}
 use Rattle.cml_verify.specs.Sameness.{is_same, is_same_says}
-use Rattle.cml_verify.specs.Verdicts.{seen}
+use Rattle.cml_verify.specs.Verdicts.{output_if}
 
 -- the world; the machine of each thread by its number; with which function each thread began; how many ended at a fault; and what is seen of
 -- the output
@@ -44,7 +44,7 @@ pub record KeepsCourse (with_output : Bool) (c : PlainCourse) (k : PlainKept) : 
   pub machines : k.machines ≡ c.machines
   pub began : k.began ≡ origins (text_of c.program) c.items
   pub faults : k.faults ≡ fault_count (text_of c.program) c.items
-  pub printed : k.printed ≡ seen with_output c.output
+  pub printed : k.printed ≡ output_if with_output c.output
 
 -- the hub has gone through the schedule
 pub record IsAfter (p : List (PlainItem ℕ)) (schedule : List Item) (h : Hub) : Type 0 where

@@ -13,9 +13,9 @@ use Rattle.cml_hub.specs.Deeds.{origins, fault_count}
 use Rattle.cml_verify.specs.Placed.{AreThreadsIn}
 
 -- what is seen of the output: all of it, or, where it does not count, nothing
-abbrev pub seen : Bool → List ℕ → Option (List ℕ)
-seen true output = Some output
-seen false output = None
+abbrev pub output_if : Bool → List ℕ → Option (List ℕ)
+output_if true output = Some output
+output_if false output = None
 
 -- an end: the world, where each thread stands, with which function it began, how many threads ended at a fault, and what is seen of the output
 pub record RunEnd : Type 0 where
@@ -33,7 +33,7 @@ pub record EndsIn (p : Program) (with_output : Bool) (schedule : List Item) (e :
   pub terms : run.terms ≡ e.terms
   pub began : origins p schedule ≡ e.began
   pub faults : fault_count p schedule ≡ e.faults
-  pub printed : seen with_output run.output ≡ e.printed
+  pub printed : output_if with_output run.output ≡ e.printed
   pub over : terminal e.world ≡ true
 
 -- the schedule ends
@@ -67,7 +67,7 @@ pub record StandsSo (p : List (PlainItem ℕ)) (with_output : Bool) (schedule : 
   pub terms : run.terms ≡ map (machine_term p) s.machines
   pub began : origins (text_of p) schedule ≡ s.began
   pub faults : fault_count (text_of p) schedule ≡ s.faults
-  pub printed : seen with_output run.output ≡ s.printed
+  pub printed : output_if with_output run.output ≡ s.printed
 
 -- No two of these states are the same. The threads of each stand in the program. A schedule leads to each, and each schedule (of at most so
 -- many items) leads to one of them.

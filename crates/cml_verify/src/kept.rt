@@ -4,7 +4,7 @@ ghost use Rattle.std.specs.Prelude.{◌≡◌, ◌<◌, ◌↔◌, IfOk, IsTrue,
 ghost use Rattle.std.specs.Hash as fed;
 ghost use Rattle.cml_hub.specs.{Runs.{terminal}, Deeds.{origins}};
 ghost use Rattle.cml_step.specs.Calls.{text_of};
-ghost use Rattle.cml_verify.specs.{Sameness.{is_same, is_same_equivalence, is_same_partly, is_same_says}, Digests.{digest_at, printed_mixed}, Kept.{PlainKept, state_code, KeepsCourse}, Verdicts.{seen}};
+ghost use Rattle.cml_verify.specs.{Sameness.{is_same, is_same_equivalence, is_same_partly, is_same_says}, Digests.{digest_at, printed_mixed}, Kept.{PlainKept, state_code, KeepsCourse}, Verdicts.{output_if}};
 ghost use Rattle.std.proofs.Common.{ap};
 
 use crate::digest::{digest_of, with_printed};
@@ -191,7 +191,7 @@ fn all_origins(alloc: Global, hub: &Hub) -> Result<Vec<FnRef>, AllocError>
 
 // What is seen of what a hub has printed.
 fn printed_by(alloc: Global, hub: &Hub, with_output: bool) -> Result<Option<Vec<u8>>, AllocError>
-    ensures { IfOk result (λ printed. option_map (λ bytes. bytes.items) printed ≡ seen with_output hub.now.course.output) }
+    ensures { IfOk result (λ printed. option_map (λ bytes. bytes.items) printed ≡ output_if with_output hub.now.course.output) }
 {
     if !with_output {
         return Ok(None);
