@@ -5,7 +5,7 @@ use Rattle.std.specs.List.{All}
 use Rattle.std.proofs.lemmas.List.Elements.{All-nil, All-push, All-weaker, Contains-append_left, Contains-push}
 use Rattle.std.proofs.lemmas.Option.{slice_get_within, slice_get-map, same_Some}
 use Rattle.cml_search.specs.Systems.{System}
-use Rattle.cml_search.specs.Searches.{IsLonger, AreEnough, GoesOn, IsEdge, AreEdges}
+use Rattle.cml_search.specs.Searches.{IsLonger, AreEnough, LeadsOnBy, IsEdge, AreEdges}
 use Rattle.cml_search.proofs.Places.{either_way}
 use Rattle.cml_search.proofs.Rounds.{same_place}
 
@@ -19,7 +19,7 @@ module _ {S I : Type 0} (y : System S I) where
     leads = h.leads;
   }
 
-  goes_longer : (edges : List (ℕ × I × ℕ)) (e : ℕ × I × ℕ) (k : ℕ) (i : I) → GoesOn edges k i → GoesOn (edges ++ e ∷ []) k i
+  goes_longer : (edges : List (ℕ × I × ℕ)) (e : ℕ × I × ℕ) (k : ℕ) (i : I) → LeadsOnBy edges k i → LeadsOnBy (edges ++ e ∷ []) k i
   goes_longer edges e k i h = (h.0, Contains-append_left edges (e ∷ []) (k, i, h.0) h.1)
 
   module _ (quietly : Bool) (at : ℕ) (old new : List S) (edges after : List (ℕ × I × ℕ)) (begun : List I) (i : I) (to : ℕ) (s t : S)
@@ -29,8 +29,8 @@ module _ {S I : Type 0} (y : System S I) where
     edges_on h = record {
       each = All-push (IsEdge y new) edges (at, i, to) (All-weaker (IsEdge y old) (IsEdge y new) (λ e g. edge_longer old new e longer g) edges h.each) here_edge;
       done = λ j u lt g. done_on j u lt g;
-      here = All-push (GoesOn (edges ++ (at, i, to) ∷ []) at) begun i
-          (All-weaker (GoesOn edges at) (GoesOn (edges ++ (at, i, to) ∷ []) at) (λ a g. goes_longer edges (at, i, to) at a g) begun h.here) (to, Contains-push edges (at, i, to));
+      here = All-push (LeadsOnBy (edges ++ (at, i, to) ∷ []) at) begun i
+          (All-weaker (LeadsOnBy edges at) (LeadsOnBy (edges ++ (at, i, to) ∷ []) at) (λ a g. goes_longer edges (at, i, to) at a g) begun h.here) (to, Contains-push edges (at, i, to));
     }
       where
         inside : at < length old
@@ -39,11 +39,11 @@ module _ {S I : Type 0} (y : System S I) where
         here_edge : IsEdge y new (at, i, to)
         here_edge = record { from = s; to = t; stands = same_place old new at longer inside ∙ stands; there = there_; leads = steps }
 
-        done_on : (j : ℕ) (u : S) → j < at → slice_get new j ≡ Some u → (items : List I) × AreEnough y quietly u items × All (GoesOn (edges ++ (at, i, to) ∷ []) j) items
+        done_on : (j : ℕ) (u : S) → j < at → slice_get new j ≡ Some u → (items : List I) × AreEnough y quietly u items × All (LeadsOnBy (edges ++ (at, i, to) ∷ []) j) items
         done_on j u lt g =
             let in' : j < length old = omega (arith, lt, inside) in
             let was = h.done j u lt (sym (same_place old new j longer in') ∙ g) in
-            (was.0, was.1, All-weaker (GoesOn edges j) (GoesOn (edges ++ (at, i, to) ∷ []) j) (λ a k. goes_longer edges (at, i, to) j a k) was.0 was.2)
+            (was.0, was.1, All-weaker (LeadsOnBy edges j) (LeadsOnBy (edges ++ (at, i, to) ∷ []) j) (λ a k. goes_longer edges (at, i, to) j a k) was.0 was.2)
 
     pub edges_new : after ≡ edges ++ (at, i, to) ∷ [] → AreEdges y quietly at old edges begun → AreEdges y quietly at new after (begun ++ i ∷ [])
     edges_new e h = subst (λ l. AreEdges y quietly at new l (begun ++ i ∷ [])) (sym e) (edges_on h)
@@ -59,24 +59,24 @@ module _ {S I : Type 0} (y : System S I) where
   module _ (quietly : Bool) (at : ℕ) (states : List S) (edges : List (ℕ × I × ℕ)) where
     -- fewer of the items are said to be followed
     pub edges_none : (begun : List I) → AreEdges y quietly at states edges begun → AreEdges y quietly at states edges []
-    edges_none begun h = record { each = h.each; done = h.done; here = All-nil (GoesOn edges at) }
+    edges_none begun h = record { each = h.each; done = h.done; here = All-nil (LeadsOnBy edges at) }
 
     -- one state more was followed
     pub edges_more : (s : S) (items : List I) → slice_get states at ≡ Some s → AreEnough y quietly s items → AreEdges y quietly at states edges items
         → AreEdges y quietly (at + 1) states edges []
-    edges_more s items stands enough h = record { each = h.each; done = λ j u lt g. by j u lt g (either_way at j); here = All-nil (GoesOn edges (at + 1)) }
+    edges_more s items stands enough h = record { each = h.each; done = λ j u lt g. by j u lt g (either_way at j); here = All-nil (LeadsOnBy edges (at + 1)) }
       where
-        by : (j : ℕ) (u : S) → j < at + 1 → slice_get states j ≡ Some u → (at ≤ j) ⊎ (j < at) → (items : List I) × AreEnough y quietly u items × All (GoesOn edges j) items
+        by : (j : ℕ) (u : S) → j < at + 1 → slice_get states j ≡ Some u → (at ≤ j) ⊎ (j < at) → (items : List I) × AreEnough y quietly u items × All (LeadsOnBy edges j) items
         by j u lt g (inl e) =
             let is : at ≡ j = omega (arith, e, lt) in
             let same : s ≡ u = same_Some s u (sym stands ∙ ap (slice_get states) is ∙ g) in
-            (items, subst (λ x. AreEnough y quietly x items) same enough, subst (λ k. All (GoesOn edges k) items) is h.here)
+            (items, subst (λ x. AreEnough y quietly x items) same enough, subst (λ k. All (LeadsOnBy edges k) items) is h.here)
         by j u lt g (inr e) = h.done j u e g
 
   -- no edge yet
   pub edges_begin : (quietly : Bool) (states : List S) (edges : List (ℕ × I × ℕ)) → edges ≡ [] → AreEdges y quietly 0 states edges []
   edges_begin quietly states edges e =
-      subst (λ l. AreEdges y quietly 0 states l []) (sym e) (record { each = All-nil (IsEdge y states); done = λ j s lt g. absurd (omega (arith, lt)); here = All-nil (GoesOn [] 0) })
+      subst (λ l. AreEdges y quietly 0 states l []) (sym e) (record { each = All-nil (IsEdge y states); done = λ j s lt g. absurd (omega (arith, lt)); here = All-nil (LeadsOnBy [] 0) })
 
 -- the item leads to the state of what stands at this place
 pub step_to : {K S I : Type 0} (f : K → S) {next there_ : K} → next ≡ there_ → (y : System S I) (s : S) (i : I) (keys : List K) (to : ℕ) → slice_get keys to ≡ Some there_

@@ -8,8 +8,8 @@ use Rattle.std.proofs.lemmas.List.Elements.{All-contains, All-nil, All-cons, All
 use Rattle.std.proofs.lemmas.List.Sums.{sum_by-set}
 use Rattle.std.proofs.lemmas.Option.{slice_get_within, get_or_from_slice_get, same_Some, IfSome_then}
 use Rattle.cml_search.specs.Systems.{System, run, IsReached, IsLawful, CanReach}
-use Rattle.cml_search.specs.Searches.{Keeps, AreEnough, GoesOn, IsEdge, AreEdges}
-use Rattle.cml_search.specs.Marks.{IsMarked, IsClosed, ArePlacesOf, AllCanReach}
+use Rattle.cml_search.specs.Searches.{Keeps, AreEnough, LeadsOnBy, IsEdge, AreEdges}
+use Rattle.cml_search.specs.Marks.{IsMarked, IsBackClosed, ArePlacesOf, AllCanReach}
 use Rattle.cml_search.proofs.Runs.{at_some, begins, run-cons, reached_next}
 use Rattle.cml_search.proofs.Places.{all_at, place_of, there}
 
@@ -66,7 +66,7 @@ module _ {S I : Type 0} (y : System S I) (over : S → Bool) (states : List S) w
       ([], s, refl, at_some (λ u. over u ≡ true) (slice_get states k) s stands (All-contains (λ j. IfSome (slice_get states j) (λ u. over u ≡ true)) places k are.each (only k h)))
 
   module _ (lawful : IsLawful y) (edges : List (ℕ × I × ℕ)) (marks : List Bool) (origins : List (ℕ × I)) (places : List ℕ)
-      (keeps : Keeps y states origins) (graph : AreEdges y false (length states) states edges []) (closed : IsClosed edges marks)
+      (keeps : Keeps y states origins) (graph : AreEdges y false (length states) states edges []) (closed : IsBackClosed edges marks)
       (are : ArePlacesOf over states places) (marked : All (IsMarked marks) places) where
     -- where an item leads
     pub record Goes (k : ℕ) (s : S) (i : I) (t : S) : Type 0 where
@@ -82,7 +82,7 @@ module _ {S I : Type 0} (y : System S I) (over : S → Bool) (states : List S) w
           | inl e ↦ subst (λ l. Contains l i) (sym e) ((lawful.lists s r).only i t steps)
           | inr q ↦ absurd (true≢false (sym q.1))
         ] in
-        let on : GoesOn edges k i = All-contains (GoesOn edges k) d.0 i d.2 mine in
+        let on : LeadsOnBy edges k i = All-contains (LeadsOnBy edges k) d.0 i d.2 mine in
         let edge : IsEdge y states (k, i, on.0) = All-contains (IsEdge y states) edges (k, i, on.0) graph.each on.1 in
         let from : edge.from ≡ s = same_Some edge.from s (sym edge.stands ∙ stands) in
         let to : edge.to ≡ t = same_Some edge.to t (sym edge.leads ∙ ap (λ u. y.step u i) from ∙ steps) in
@@ -127,7 +127,7 @@ module _ {S I : Type 0} (y : System S I) (over : S → Bool) (states : List S) w
 
 -- what is said of the first place that is not marked
 module _ {S I : Type 0} (y : System S I) (lawful : IsLawful y) (states : List S) (origins : List (ℕ × I)) (edges : List (ℕ × I × ℕ)) (marks : List Bool) (places : List ℕ)
-    (keeps : Keeps y states origins) (graph : AreEdges y false (length states) states edges []) (closed : IsClosed edges marks) (marked : All (IsMarked marks) places) where
+    (keeps : Keeps y states origins) (graph : AreEdges y false (length states) states edges []) (closed : IsBackClosed edges marks) (marked : All (IsMarked marks) places) where
   pub some_cut : (n : ℕ) (o : Option ℕ) → length marks ≡ n → IfSome o (λ k. slice_get marks k ≡ Some false)
       → IfSome o (λ k. (k < n) × ((over : S → Bool) → ArePlacesOf over states places → IfSome (slice_get states k) (λ s. CanReach y over s → ⊥)))
   some_cut n o size h =
@@ -150,7 +150,7 @@ module _ {S I : Type 0} (y : System S I) (states : List S) (edges : List (ℕ ×
     pub keeps : (k : ℕ) → IsMarked old k → IsMarked marks k
     pub only : (over : S → Bool) → AllCanReach y over states old → AllCanReach y over states marks
     pub fewer : count_by not marks + count ≡ count_by not old
-    pub closed : count ≡ 0 → IsClosed (drop at edges) marks
+    pub closed : count ≡ 0 → IsBackClosed (drop at edges) marks
 
   pub walk_begins : (old : List Bool) → WalksBack old (length edges) 0 old
   walk_begins old = record {
@@ -159,7 +159,7 @@ module _ {S I : Type 0} (y : System S I) (states : List S) (edges : List (ℕ ×
     keeps = λ k h. h;
     only = λ over h. h;
     fewer = omega arith;
-    closed = λ _. subst (λ l. IsClosed l old) (sym (drop_all (length edges) edges (omega arith))) (All-nil (λ e. IsMarked old e.2 → IsMarked old e.0));
+    closed = λ _. subst (λ l. IsBackClosed l old) (sym (drop_all (length edges) edges (omega arith))) (All-nil (λ e. IsMarked old e.2 → IsMarked old e.0));
   }
 
   module _ (each : All (IsEdge y states) edges) (old : List Bool) (at count : ℕ) (marks : List Bool) (e : ℕ × I × ℕ)
@@ -195,7 +195,7 @@ module _ {S I : Type 0} (y : System S I) (states : List S) (edges : List (ℕ ×
       keeps = w.keeps;
       only = w.only;
       fewer = w.fewer;
-      closed = λ z. subst (λ l. IsClosed l marks) (sym next)
+      closed = λ z. subst (λ l. IsBackClosed l marks) (sym next)
           (All-cons (λ f. IsMarked marks f.2 → IsMarked marks f.0) e (drop (at + 1) edges) back (w.closed z));
     })
 
@@ -235,7 +235,7 @@ module _ {S I : Type 0} (y : System S I) (states : List S) (edges : List (ℕ ×
     pub size : length marks ≡ n
     pub marked : All (IsMarked marks) places
     pub can : (over : S → Bool) → ArePlacesOf over states places → AllCanReach y over states marks
-    pub closed : more ≡ 0 → IsClosed edges marks
+    pub closed : more ≡ 0 → IsBackClosed edges marks
 
   pub first_marks : (marks : List Bool) → length marks ≡ n → All (IsMarked marks) places → ((k : ℕ) → IsMarked marks k → Contains places k) → MarksSoFar 1 marks
   first_marks marks size each only = record {
@@ -246,7 +246,7 @@ module _ {S I : Type 0} (y : System S I) (states : List S) (edges : List (ℕ ×
   }
 
   pub more_marks : (more left : ℕ) (marks after : List Bool) → MarksSoFar more marks → length after ≡ length marks → ((k : ℕ) → IsMarked marks k → IsMarked after k)
-      → ((over : S → Bool) → AllCanReach y over states marks → AllCanReach y over states after) → (left ≡ 0 → IsClosed edges after) → MarksSoFar left after
+      → ((over : S → Bool) → AllCanReach y over states marks → AllCanReach y over states after) → (left ≡ 0 → IsBackClosed edges after) → MarksSoFar left after
   more_marks more left marks after m size keeps only closed = record {
     size = size ∙ m.size;
     marked = All-weaker (IsMarked marks) (IsMarked after) keeps places m.marked;

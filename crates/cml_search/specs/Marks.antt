@@ -8,8 +8,8 @@ abbrev pub IsMarked : List Bool → ℕ → Type 0
 IsMarked marks k = slice_get marks k ≡ Some true
 
 -- a place is marked from which an edge leads to a marked one
-abbrev pub IsClosed : {I : Type 0} → List (ℕ × I × ℕ) → List Bool → Type 0
-IsClosed edges marks = All (λ e. IsMarked marks e.2 → IsMarked marks e.0) edges
+abbrev pub IsBackClosed : {I : Type 0} → List (ℕ × I × ℕ) → List Bool → Type 0
+IsBackClosed edges marks = All (λ e. IsMarked marks e.2 → IsMarked marks e.0) edges
 
 -- these are the places of the states of which this is so
 pub record ArePlacesOf {S : Type 0} (over : S → Bool) (states : List S) (places : List ℕ) : Type 0 where

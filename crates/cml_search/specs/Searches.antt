@@ -12,8 +12,8 @@ abbrev pub IsFoundBefore : {S : Type 0} → List S → ℕ → S → Type 0
 IsFoundBefore states place s = (k : ℕ) × (k < place) × (slice_get states k ≡ Some s)
 
 -- the item leads on from this place: an edge says where
-abbrev pub GoesOn : {I : Type 0} → List (ℕ × I × ℕ) → ℕ → I → Type 0
-GoesOn edges place i = (to : ℕ) × Contains edges (place, i, to)
+abbrev pub LeadsOnBy : {I : Type 0} → List (ℕ × I × ℕ) → ℕ → I → Type 0
+LeadsOnBy edges place i = (to : ℕ) × Contains edges (place, i, to)
 
 -- By the origins, one item more leads to a state than to the one that it came of: how many lead to the state at each place.
 pub record Depths {I : Type 0} (origins : List (ℕ × I)) (depth : ℕ → ℕ) : Type 0 where
@@ -84,5 +84,5 @@ module _ {S I : Type 0} (y : System S I) where
   -- From each of so many of the first states, an edge says of each of enough items where it leads; and from the next state of each of these.
   pub record AreEdges (quietly : Bool) (followed : ℕ) (states : List S) (edges : List (ℕ × I × ℕ)) (begun : List I) : Type 0 where
     pub each : All (IsEdge states) edges
-    pub done : (j : ℕ) (s : S) → j < followed → slice_get states j ≡ Some s → (items : List I) × AreEnough quietly s items × All (GoesOn edges j) items
-    pub here : All (GoesOn edges followed) begun
+    pub done : (j : ℕ) (s : S) → j < followed → slice_get states j ≡ Some s → (items : List I) × AreEnough quietly s items × All (LeadsOnBy edges j) items
+    pub here : All (LeadsOnBy edges followed) begun

@@ -4,7 +4,7 @@ ghost use Rattle.std.specs.Prelude.{Contains, ◌≡◌, ◌<◌, ◌+◌, ℕ, 
 ghost use Rattle.std.specs.List.{All};
 ghost use Rattle.cml_search.specs.Systems.{IsReached, CanReach};
 ghost use Rattle.cml_search.specs.Searches.{IsSearch, IsEdge, AreEdges};
-ghost use Rattle.cml_search.specs.Marks.{IsMarked, IsClosed, ArePlacesOf, AllCanReach};
+ghost use Rattle.cml_search.specs.Marks.{IsMarked, IsBackClosed, ArePlacesOf, AllCanReach};
 
 use crate::found::Found;
 use crate::system::System;
@@ -54,7 +54,7 @@ fn mark_back<Y: System>(
     ensures only { (over : Y.State → Bool) → AllCanReach (Y.rules _system.now) over (map (Y.state_of _system.now) found.now.kept.keys) marks.old.items
         → AllCanReach (Y.rules _system.now) over (map (Y.state_of _system.now) found.now.kept.keys) marks.new.items }
     ensures fewer { count_by not marks.new.items + result ≡ count_by not marks.old.items }
-    ensures closed { result ≡ 0 → IsClosed found.now.edges.items marks.new.items }
+    ensures closed { result ≡ 0 → IsBackClosed found.now.edges.items marks.new.items }
 {
     let mut count = 0;
     let mut at = found.edges().len();
@@ -81,7 +81,7 @@ fn marked<Y: System>(
     ensures places { IfOk result (λ marks. All (IsMarked marks.items) places.now) }
     ensures can { IfOk result (λ marks. (over : Y.State → Bool) → ArePlacesOf over (map (Y.state_of system.now) found.now.kept.keys) places.now
         → AllCanReach (Y.rules system.now) over (map (Y.state_of system.now) found.now.kept.keys) marks.items) }
-    ensures closed { IfOk result (λ marks. IsClosed found.now.edges.items marks.items) }
+    ensures closed { IfOk result (λ marks. IsBackClosed found.now.edges.items marks.items) }
 {
     let mut marks = marks_at(alloc, found.kept().len(), places)?;
     let mut more = 1;

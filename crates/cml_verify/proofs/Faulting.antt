@@ -18,13 +18,13 @@ use Rattle.cml_hub.specs.Performed.{PlainDone, goes, gets, spawns, prints, waits
 use Rattle.cml_hub.specs.Runs.{Run, stands, is_allowed, after_item, advance, turned_by, output_of}
 use Rattle.cml_hub.specs.Deeds.{deed, after_deed, is_fault}
 use Rattle.cml_search.specs.Systems.{System, run, IsReached, LeadsTo}
-use Rattle.cml_search.specs.Searches.{IsLonger, AreEnough, GoesOn, IsEdge, AreEdges}
+use Rattle.cml_search.specs.Searches.{IsLonger, AreEnough, LeadsOnBy, IsEdge, AreEdges}
 use Rattle.cml_search.proofs.Runs.{at_some}
 use Rattle.cml_verify.specs.Cores.{Past, past, more, Core, core_of, run_at, done_by, core_step, whose_turn, program_system}
 use Rattle.cml_verify.specs.Kept.{IsAfter}
 use Rattle.cml_verify.specs.Verdicts.{IsWithin}
-use Rattle.cml_verify.specs.Faults.{turn_of, Fails, EveryFaultIsTold}
-use Rattle.cml_verify.specs.Failing.{FailsBy, IsLineAt, IsNoted, EdgeIsNoted}
+use Rattle.cml_verify.specs.Faults.{turn_of, FaultsBehind, EveryFaultIsTold}
+use Rattle.cml_verify.specs.Failing.{FaultsBy, IsLineAt, FaultIsNoted, EdgeIsNoted}
 use Rattle.cml_verify.specs.Lawful.{is_lawful}
 use Rattle.cml_verify.proofs.Stepping.{here, leads_here}
 use Rattle.cml_verify.proofs.Viewed.{runs_core, run_behind, step_core}
@@ -45,7 +45,7 @@ where_allowed true o new e = (refl, e)
 where_allowed false o new e = absurd (cc)
 
 -- where a thread ends at a fault by a turn, the turn does so
-pub fault_by : (p : Program) (s : Bool) (c : Core) (thread : ℕ) → FailsBy p s c (turn_of thread) → (name : List ℕ) × (deed p (run_at c) (turn_of thread) ≡ Some (fails name))
+pub fault_by : (p : Program) (s : Bool) (c : Core) (thread : ℕ) → FaultsBy p s c (turn_of thread) → (name : List ℕ) × (deed p (run_at c) (turn_of thread) ≡ Some (fails name))
 fault_by p s c thread f =
     let i = turn_of thread in
     let ds = done_by p (run_at c) i in
@@ -54,7 +54,7 @@ fault_by p s c thread f =
     one_fault (deed p (run_at c) i) (omega (arith, count, f.one_more))
 
 -- the turn can come
-pub comes_by : (p : Program) (s : Bool) (c : Core) (thread : ℕ) → FailsBy p s c (turn_of thread) → is_allowed c.world (turn_of thread) ≡ true
+pub comes_by : (p : Program) (s : Bool) (c : Core) (thread : ℕ) → FaultsBy p s c (turn_of thread) → is_allowed c.world (turn_of thread) ≡ true
 comes_by p s c thread f =
     let i = turn_of thread in
     let b = run_behind s (more c.past (done_by p (run_at c) i)) (advance p (run_at c) i) f.next f.leads in
@@ -83,15 +83,15 @@ behind xs ys zs n e f = rw (e, f) (front xs ys)
 
 -- the hub has gone through the schedule, and then through the turn
 module _ (p : List (PlainItem ℕ)) (s : Bool) (schedule : List Item) (h : Hub) (after : IsAfter p schedule h) (thread : ℕ)
-    (leads : LeadsTo (program_system (text_of p) s) schedule (λ c. FailsBy (text_of p) s c (turn_of thread))) where
-  failing_here : FailsBy (text_of p) s (here p s schedule h after) (turn_of thread)
-  failing_here = subst (λ c. FailsBy (text_of p) s c (turn_of thread)) (same_Some leads.0 (here p s schedule h after) (sym leads.1 ∙ leads_here p s schedule h after)) leads.2
+    (leads : LeadsTo (program_system (text_of p) s) schedule (λ c. FaultsBy (text_of p) s c (turn_of thread))) where
+  failing_here : FaultsBy (text_of p) s (here p s schedule h after) (turn_of thread)
+  failing_here = subst (λ c. FaultsBy (text_of p) s c (turn_of thread)) (same_Some leads.0 (here p s schedule h after) (sym leads.1 ∙ leads_here p s schedule h after)) leads.2
 
   pub comes_here : is_allowed h.course.world (turn_of thread) ≡ true
   comes_here = comes_by (text_of p) s (here p s schedule h after) thread failing_here
 
   pub fails_here : (new : Hub) (printed : List ℕ) (n : ℕ) → Adds h.course (turn_of thread) new.course → n ≡ length h.course.output → printed ≡ drop n new.course.output
-      → Fails (text_of p) schedule thread printed
+      → FaultsBehind (text_of p) schedule thread printed
   fails_here new printed n adds size is =
       let r = run_of h.course in
       let f = fault_by (text_of p) s (here p s schedule h after) thread failing_here in
@@ -124,7 +124,7 @@ module _ (p : Program) (s : Bool) (followed : ℕ) (states : List Core) (edges :
   turn_leads r thread d (Some term) e = (turned_by p r thread (sliced p thread term), refl)
 
   fails_at : (a : Past) (r : Run) (thread : ℕ) (name : List ℕ) → is_allowed r.world (turn_of thread) ≡ true → deed p r (turn_of thread) ≡ Some (fails name)
-      → FailsBy p s (core_of s a r) (turn_of thread)
+      → FaultsBy p s (core_of s a r) (turn_of thread)
   fails_at a r thread name comes fault =
       let i = turn_of thread in
       let t = turn_leads r thread (fails name) (slice_get r.terms thread) fault in
@@ -149,7 +149,7 @@ module _ (p : Program) (s : Bool) (followed : ℕ) (states : List Core) (edges :
         | inl e ↦ subst (λ l. Contains l i) (sym e) (((is_lawful p s).lists c (schedule, leads)).only i f.next f.leads)
         | inr q ↦ absurd (true≢false (sym q.1))
       ] in
-      let on : GoesOn edges k i = All-contains (GoesOn edges k) d.0 i d.2 mine in
+      let on : LeadsOnBy edges k i = All-contains (LeadsOnBy edges k) d.0 i d.2 mine in
       let n = All-contains (EdgeIsNoted p s states told) edges (k, i, on.0) noted on.1 c thread stands refl f in
       let same : n.1.name ≡ name = fault_name n.1.name name (sym n.1.fault ∙ fault) in
       let is : n.0 ≡ printed = n.1.line ∙ ap (λ m. output_of thread (fails m)) same ∙ sym line in
@@ -186,21 +186,21 @@ no_turn p s states told e is c thread at owner f = let g : None ≡ Some thread 
 
 -- the item of the edge is a turn, whose fault was noted
 pub turn_noted : (p : Program) (s : Bool) (states : List Core) (told : List (List Item × ℕ × List ℕ)) (from to : ℕ) (thread : Tid)
-    → IfSome (slice_get states from) (λ c. IsNoted p told c thread.0) → EdgeIsNoted p s states told (from, Turn thread, to)
+    → IfSome (slice_get states from) (λ c. FaultIsNoted p told c thread.0) → EdgeIsNoted p s states told (from, Turn thread, to)
 turn_noted p s states told from to thread h c t at owner f =
     let same : thread.0 ≡ t = same_Some thread.0 t owner in
-    subst (IsNoted p told c) same (at_some (λ x. IsNoted p told x thread.0) (slice_get states from) c at h)
+    subst (FaultIsNoted p told c) same (at_some (λ x. FaultIsNoted p told x thread.0) (slice_get states from) c at h)
 
 -- the item of the edge is a turn, at which its thread ends at a fault
 pub turn_fails : (p : Program) (s : Bool) (states : List Core) (from to : ℕ) (thread : Tid) (edge : IsEdge (program_system p s) states (from, Turn thread, to))
-    → edge.from.past.faults < edge.to.past.faults → IfSome (slice_get states from) (λ c. FailsBy p s c (turn_of thread.0))
+    → edge.from.past.faults < edge.to.past.faults → IfSome (slice_get states from) (λ c. FaultsBy p s c (turn_of thread.0))
 turn_fails p s states from to thread edge lt =
-    let At : Option Core → Type 0 = λ o. IfSome o (λ c. FailsBy p s c (turn_of thread.0)) in
+    let At : Option Core → Type 0 = λ o. IfSome o (λ c. FaultsBy p s c (turn_of thread.0)) in
     subst At (sym edge.stands) (record { next = edge.to; leads = edge.leads; one_more = lt })
 
 -- the line that a turn prints, at the core to which the schedule leads
 pub line_at : (p : Program) (s : Bool) (schedule : List Item) (c : Core) (thread : ℕ) (printed : List ℕ) → run (program_system p s) (program_system p s).start schedule ≡ Some c
-    → Fails p schedule thread printed → IsLineAt p c thread printed
+    → FaultsBehind p schedule thread printed → IsLineAt p c thread printed
 line_at p s schedule c thread printed leads f =
     let a = past p schedule in
     let is : core_of s a f.run ≡ c = same_Some (core_of s a f.run) c (sym (runs_core p s schedule ∙ ap (option_map (core_of s a)) f.leads) ∙ leads) in
@@ -208,10 +208,10 @@ line_at p s schedule c thread printed leads f =
 
 -- where a fault with this line is told, that of the turn is noted
 pub is_noted : (p : Program) (s : Bool) (states : List Core) (told : List (List Item × ℕ × List ℕ)) (place : ℕ) (schedule one : List Item) (thread : ℕ) (printed : List ℕ)
-    → run (program_system p s) (program_system p s).start schedule ≡ slice_get states place → Fails p schedule thread printed → Contains told (one, thread, printed)
-    → IfSome (slice_get states place) (λ c. IsNoted p told c thread)
+    → run (program_system p s) (program_system p s).start schedule ≡ slice_get states place → FaultsBehind p schedule thread printed → Contains told (one, thread, printed)
+    → IfSome (slice_get states place) (λ c. FaultIsNoted p told c thread)
 is_noted p s states told place schedule one thread printed leads f has = by (slice_get states place) refl
   where
-    by : (o : Option Core) → slice_get states place ≡ o → IfSome o (λ c. IsNoted p told c thread)
+    by : (o : Option Core) → slice_get states place ≡ o → IfSome o (λ c. FaultIsNoted p told c thread)
     by None h = tt
     by (Some c) h = (printed, line_at p s schedule c thread printed (leads ∙ h) f, (one, has))

@@ -14,7 +14,7 @@ abbrev pub turn_of : ℕ → Item
 turn_of thread = Turn (record { 0 = thread })
 
 -- Behind the schedule a turn of the thread can come; it ends the thread at a fault, and this line is printed.
-pub record Fails (p : Program) (schedule : List Item) (thread : ℕ) (printed : List ℕ) : Type 0 where
+pub record FaultsBehind (p : Program) (schedule : List Item) (thread : ℕ) (printed : List ℕ) : Type 0 where
   pub run : Run
   pub leads : stands p schedule ≡ Some run
   pub comes : is_allowed run.world (turn_of thread) ≡ true
@@ -25,12 +25,12 @@ pub record Fails (p : Program) (schedule : List Item) (thread : ℕ) (printed : 
 -- Of each turn (of schedules that have at most so many items with it) at which a thread ends at a fault, one with the same thread and the same
 -- line is among these.
 abbrev pub EveryFaultIsTold : Program → Option ℕ → List (List Item × ℕ × List ℕ) → Type 0
-EveryFaultIsTold p most told = (schedule : List Item) (thread : ℕ) (printed : List ℕ) → IsWithin most (schedule ++ turn_of thread ∷ []) → Fails p schedule thread printed
+EveryFaultIsTold p most told = (schedule : List Item) (thread : ℕ) (printed : List ℕ) → IsWithin most (schedule ++ turn_of thread ∷ []) → FaultsBehind p schedule thread printed
     → (one : List Item) × Contains told (one, thread, printed)
 
 -- each that is told is such a turn, and all such turns are told
 pub record AreFaults (p : Program) (most : Option ℕ) (told : List (List Item × ℕ × List ℕ)) : Type 0 where
-  pub each : All (λ f. Fails p f.0 f.1 f.2) told
+  pub each : All (λ f. FaultsBehind p f.0 f.1 f.2) told
   pub all : EveryFaultIsTold p most told
 
 -- The schedule leads somewhere, and whatever comes behind it, it does not end.

@@ -5,7 +5,7 @@ ghost use Rattle.std.specs.List.{All};
 ghost use Rattle.cml_search.specs.{Systems.{LeadsTo}, Searches.{IsLonger, IsSearch, IsEdge}};
 ghost use Rattle.cml_schedule.specs.declared.item.Item.{Item};
 ghost use Rattle.cml_step.specs.Calls.{text_of};
-ghost use Rattle.cml_verify.specs.{Cores.{program_system}, Kept.{core_kept}, Faults.{Fails, turn_of}, Failing.{FailsBy, IsNoted, EdgeIsNoted}, Told.{plain_failing, FailsAt}};
+ghost use Rattle.cml_verify.specs.{Cores.{program_system}, Kept.{core_kept}, Faults.{FaultsBehind, turn_of}, Failing.{FaultsBy, FaultIsNoted, EdgeIsNoted}, Told.{plain_failing, FailsAt}};
 
 use crate::kept::Kept;
 use crate::schedules::{Schedules, hub_after};
@@ -33,8 +33,8 @@ fn line_of(
     schedule: &[Item],
     thread: Tid,
 ) -> Result<Vec<u8>, AllocError>
-    requires { (with_output : Bool) × LeadsTo (program_system (text_of program.now) with_output) schedule.now (λ c. FailsBy (text_of program.now) with_output c (turn_of thread.0)) }
-    ensures { IfOk result (λ line. Fails (text_of program.now) schedule.now thread.0 line.items) }
+    requires { (with_output : Bool) × LeadsTo (program_system (text_of program.now) with_output) schedule.now (λ c. FaultsBy (text_of program.now) with_output c (turn_of thread.0)) }
+    ensures { IfOk result (λ line. FaultsBehind (text_of program.now) schedule.now thread.0 line.items) }
 {
     let mut hub = hub_after(alloc, program, schedule)?;
     let before = hub.out().len();
@@ -71,12 +71,12 @@ fn note(
     requires search { IsSearch (program_system (text_of system.now.program) system.now.with_output) false found.now.followed (map (core_kept system.now.program) found.now.kept.keys) found.now.origins.items }
     requires any { found.now.quietly ≡ false }
     requires within { place < length found.now.kept.keys }
-    requires fails { IfSome (slice_get (map (core_kept system.now.program) found.now.kept.keys) place) (λ c. FailsBy (text_of system.now.program) system.now.with_output c (turn_of thread.0)) }
+    requires fails { IfSome (slice_get (map (core_kept system.now.program) found.now.kept.keys) place) (λ c. FaultsBy (text_of system.now.program) system.now.with_output c (turn_of thread.0)) }
     requires each { All (FailsAt (text_of system.now.program)) (map plain_failing told.old.items) }
     ensures each { OnOk result (All (FailsAt (text_of system.now.program)) (map plain_failing told.new.items)) }
     ensures longer { OnOk result (IsLonger (map plain_failing told.old.items) (map plain_failing told.new.items)) }
     ensures noted { OnOk result (IfSome (slice_get (map (core_kept system.now.program) found.now.kept.keys) place)
-        (λ c. IsNoted (text_of system.now.program) (map plain_failing told.new.items) c thread.0)) }
+        (λ c. FaultIsNoted (text_of system.now.program) (map plain_failing told.new.items) c thread.0)) }
 {
     let schedule = schedule_to(alloc, system, found, place)?;
     let line = line_of(alloc, &system.program, schedule.as_slice(), thread)?;
