@@ -6,3 +6,6 @@ pub mod Lawful
 pub mod Ends
 pub mod Digests
 pub mod Placed
+pub mod Faults
+pub mod Failing
+pub mod Told

@@ -5,6 +5,7 @@ mod allowed;
 mod digest;
 mod ends;
 mod every;
+mod faults;
 mod kept;
 mod placed;
 mod read;
@@ -13,3 +14,4 @@ mod schedules;
 
 pub use cml_search::Gap;
 pub use every::{Verdict, outcomes, verify};
+pub use faults::Failing;
