@@ -1,32 +1,31 @@
 -- Where a thread ends at a fault.
-use Rattle.std.proofs.Common.{◌≡◌, ℕ, ◌+◌, ◌<◌, ◌≤◌, Bool, true, false, if◌then◌else◌, List, [], ◌∷◌, ◌++◌, length, drop, map, Option, Some, None, slice_get, Contains}
-use Rattle.std.proofs.Common.{◌⊎◌, inl, inr, refl, ap, sym, subst, ◌∙◌, arith, true≢false}
-use Rattle.std.specs.Prelude.{option_map, count_by, is_some, IfSome}
+use Rattle.std.proofs.Common.{◌≡◌, ℕ, zero, suc, ◌+◌, ◌<◌, ◌≤◌, Bool, true, false, if◌then◌else◌, List, [], ◌∷◌, ◌++◌, length, map, Option, Some, None, slice_get, Contains}
+use Rattle.std.proofs.Common.{◌⊎◌, inl, inr, refl, ap, sym, subst, ◌∙◌, arith, true≢false, length-append, append-nil}
+use Rattle.std.specs.Prelude.{option_map, option_and_then, count_by}
 use Rattle.std.specs.List.{All}
-use Rattle.std.proofs.lemmas.List.Elements.{All-contains, Contains-append_left}
-use Rattle.std.proofs.lemmas.Option.{same_Some}
+use Rattle.std.proofs.lemmas.List.Elements.{All-contains, All-push, Contains-append_left, Contains-push}
+use Rattle.std.proofs.lemmas.Option.{same_Some, slice_get-map, slice_get_within, get_or_from_slice_get}
 use Rattle.cml_check.specs.Syntax.{PlainItem}
 use Rattle.cml_value.specs.declared.number.Tid.{Tid}
 use Rattle.cml_schedule.specs.declared.item.Item.{Item}
 use Rattle.cml_schedule.specs.declared.item.Item.TheVariants.{Turn}
 use Rattle.cml_step.specs.Calls.{text_of}
+use Rattle.cml_step.specs.Machines.{PlainMachine, machine_term}
 use Rattle.cml_step.specs.Slices.{sliced}
 use Rattle.cml_step.specs.Terms.{Program, Term}
-use Rattle.cml_hub.specs.Courses.{run_of, Adds}
-use Rattle.cml_hub.specs.Kept.{Kept as Hub}
 use Rattle.cml_hub.specs.Performed.{PlainDone, goes, gets, spawns, prints, waits, ends, fails, performed}
-use Rattle.cml_hub.specs.Runs.{Run, stands, is_allowed, after_item, advance, turned_by, output_of}
+use Rattle.cml_hub.specs.Runs.{Run, stands, is_allowed, after_item, advance, turned_by}
 use Rattle.cml_hub.specs.Deeds.{deed, after_deed, is_fault}
-use Rattle.cml_search.specs.Systems.{System, run, IsReached, LeadsTo}
-use Rattle.cml_search.specs.Searches.{IsLonger, AreEnough, LeadsOnBy, IsEdge, AreEdges}
-use Rattle.cml_search.proofs.Runs.{at_some}
-use Rattle.cml_verify.specs.Cores.{Past, past, more, Core, core_of, run_at, done_by, core_step, whose_turn, program_system}
-use Rattle.cml_verify.specs.Kept.{IsAfter}
+use Rattle.cml_search.specs.Systems.{System, run}
+use Rattle.cml_search.specs.Searches.{IsLonger, LeadsOnBy, IsEdge, AreEdges}
+use Rattle.cml_search.proofs.Places.{there, place_of, either_way, get_push_cases}
+use Rattle.cml_verify.specs.Cores.{Past, past, more, Core, core_of, run_at, done_by, core_step, program_system}
+use Rattle.cml_verify.specs.Kept.{PlainKept, core_kept}
 use Rattle.cml_verify.specs.Verdicts.{IsWithin}
-use Rattle.cml_verify.specs.Faults.{turn_of, FaultsBehind, EveryFaultIsTold}
-use Rattle.cml_verify.specs.Failing.{FaultsBy, IsLineAt, FaultIsNoted, EdgeIsNoted}
+use Rattle.cml_verify.specs.Faults.{turn_of, FaultComesLast, HasFault, AreFaults}
+use Rattle.cml_verify.specs.Falling.{FaultsBy, FallsFrom, stood_at, IsFallNoted, EdgeIsNoted, IsScheduleBy, AreSchedulesBy, AreFollowed}
 use Rattle.cml_verify.specs.Lawful.{is_lawful}
-use Rattle.cml_verify.proofs.Stepping.{here, leads_here}
+use Rattle.cml_verify.proofs.Verdicts.{all_from, kept_behind}
 use Rattle.cml_verify.proofs.Viewed.{runs_core, run_behind, step_core}
 
 -- a deed that counts as a fault is one
@@ -45,7 +44,7 @@ where_allowed true o new e = (refl, e)
 where_allowed false o new e = absurd (cc)
 
 -- where a thread ends at a fault by a turn, the turn does so
-pub fault_by : (p : Program) (s : Bool) (c : Core) (thread : ℕ) → FaultsBy p s c (turn_of thread) → (name : List ℕ) × (deed p (run_at c) (turn_of thread) ≡ Some (fails name))
+fault_by : (p : Program) (s : Bool) (c : Core) (thread : ℕ) → FaultsBy p s c (turn_of thread) → (name : List ℕ) × (deed p (run_at c) (turn_of thread) ≡ Some (fails name))
 fault_by p s c thread f =
     let i = turn_of thread in
     let ds = done_by p (run_at c) i in
@@ -54,70 +53,43 @@ fault_by p s c thread f =
     one_fault (deed p (run_at c) i) (omega (arith, count, f.one_more))
 
 -- the turn can come
-pub comes_by : (p : Program) (s : Bool) (c : Core) (thread : ℕ) → FaultsBy p s c (turn_of thread) → is_allowed c.world (turn_of thread) ≡ true
+comes_by : (p : Program) (s : Bool) (c : Core) (thread : ℕ) → FaultsBy p s c (turn_of thread) → is_allowed c.world (turn_of thread) ≡ true
 comes_by p s c thread f =
     let i = turn_of thread in
     let b = run_behind s (more c.past (done_by p (run_at c) i)) (advance p (run_at c) i) f.next f.leads in
     (where_allowed (is_allowed c.world i) (after_item p (run_at c) i) b.0 b.1).0
 
--- what a turn prints
-printed_so : (p : Program) (r new : Run) (t : ℕ) (d : PlainDone) (o : Option Term) → option_map (λ term. turned_by p r t (sliced p t term)) o ≡ Some new
-    → option_map (λ term. (performed r.world t (sliced p t term).ask).1) o ≡ Some d → new.output ≡ r.output ++ output_of t d
-printed_so p r new t d None e f = absurd (cc)
-printed_so p r new t d (Some term) e f =
-    ap (λ (x : Run). x.output) (sym (same_Some (turned_by p r t (sliced p t term)) new e))
-    ∙ ap (λ x. r.output ++ output_of t x) (same_Some (performed r.world t (sliced p t term).ask).1 d f)
+-- what was taken further was there
+taken : {A B : Type 0} (f : A → B) (o : Option A) (b : B) → option_map f o ≡ Some b → (a : A) × (o ≡ Some a)
+taken f None b e = absurd (cc)
+taken f (Some a) b e = (a, refl)
 
-pub turn_prints : (p : Program) (r new : Run) (thread : ℕ) (d : PlainDone) → advance p r (turn_of thread) ≡ Some new → deed p r (turn_of thread) ≡ Some d
-    → new.output ≡ r.output ++ output_of thread d
-turn_prints p r new thread d e f =
-    printed_so p r new thread d (slice_get r.terms thread) (where_allowed (is_allowed r.world (turn_of thread)) (after_item p r (turn_of thread)) new e).1 f
-
--- what comes behind the front
-pub behind : {X : Type 0} (xs ys zs : List X) (n : ℕ) → zs ≡ xs ++ ys → n ≡ length xs → drop n zs ≡ ys
-behind xs ys zs n e f = rw (e, f) (front xs ys)
-  where
-    front : {X : Type 0} (xs ys : List X) → drop (length xs) (xs ++ ys) ≡ ys
-    front [] ys = refl
-    front (x ∷ xs) ys = front xs ys
-
--- the hub has gone through the schedule, and then through the turn
-module _ (p : List (PlainItem ℕ)) (s : Bool) (schedule : List Item) (h : Hub) (after : IsAfter p schedule h) (thread : ℕ)
-    (leads : LeadsTo (program_system (text_of p) s) schedule (λ c. FaultsBy (text_of p) s c (turn_of thread))) where
-  failing_here : FaultsBy (text_of p) s (here p s schedule h after) (turn_of thread)
-  failing_here = subst (λ c. FaultsBy (text_of p) s c (turn_of thread)) (same_Some leads.0 (here p s schedule h after) (sym leads.1 ∙ leads_here p s schedule h after)) leads.2
-
-  pub comes_here : is_allowed h.course.world (turn_of thread) ≡ true
-  comes_here = comes_by (text_of p) s (here p s schedule h after) thread failing_here
-
-  pub fails_here : (new : Hub) (printed : List ℕ) (n : ℕ) → Adds h.course (turn_of thread) new.course → n ≡ length h.course.output → printed ≡ drop n new.course.output
-      → FaultsBehind (text_of p) schedule thread printed
-  fails_here new printed n adds size is =
-      let r = run_of h.course in
-      let f = fault_by (text_of p) s (here p s schedule h after) thread failing_here in
-      let name = f.0 in
-      let fault : deed (text_of p) r (turn_of thread) ≡ Some (fails name) = f.1 in
-      let out : new.course.output ≡ h.course.output ++ output_of thread (fails name) =
-      turn_prints (text_of p) r (run_of new.course) thread (fails name) (rw (← after.program) adds.run) fault in
+-- a schedule to where a thread ends at a fault by its turn, and then the turn
+module _ (p : Program) (s : Bool) (before : List Item) (c : Core) (thread : ℕ) (leads : run (program_system p s) (program_system p s).start before ≡ Some c)
+    (falls : FaultsBy p s c (turn_of thread)) where
+  comes_last : (schedule : List Item) (stood : Term) → schedule ≡ before ++ turn_of thread ∷ [] → slice_get c.terms thread ≡ Some stood → FaultComesLast p schedule thread stood
+  comes_last schedule stood last from =
+      let b = run_behind s (past p before) (stands p before) c (sym (runs_core p s before) ∙ leads) in
+      let f : FaultsBy p s (core_of s (past p before) b.0) (turn_of thread) = subst (λ x. FaultsBy p s x (turn_of thread)) (sym b.2) falls in
+      let n = fault_by p s (core_of s (past p before) b.0) thread f in
       record {
-        run = r;
-        leads = after.leads;
-        comes = comes_here;
-        name = name;
-        fault = fault;
-        line = is ∙ behind h.course.output (output_of thread (fails name)) new.course.output n out size;
+        before = before;
+        last = last;
+        run = b.0;
+        leads = b.1;
+        comes = comes_by p s (core_of s (past p before) b.0) thread f;
+        from = ap (λ (x : Core). slice_get x.terms thread) b.2 ∙ from;
+        name = n.0;
+        falls = n.1;
       }
 
--- the name of a fault
-fault_name : (m n : List ℕ) → Some (fails m) ≡ Some (fails n) → m ≡ n
-fault_name m n e = cc
+  stands_somewhere : (stood : Term) × (slice_get c.terms thread ≡ Some stood)
+  stands_somewhere =
+      let n = fault_by p s c thread falls in
+      taken (λ term. (performed c.world thread (sliced p thread term).ask).1) (slice_get c.terms thread) (fails n.0) n.1
 
--- each fault is noted where each edge is
-module _ (p : Program) (s : Bool) (followed : ℕ) (states : List Core) (edges : List (ℕ × Item × ℕ)) (told : List (List Item × ℕ × List ℕ))
-    (graph : AreEdges (program_system p s) false followed states edges []) (noted : All (EdgeIsNoted p s states told) edges) where
-  abbrev y : System Core Item
-  y = program_system p s
-
+-- where the turn of a thread ends it at a fault, it is an item by which a thread does so
+module _ (p : Program) (s : Bool) where
   turn_leads : (r : Run) (thread : ℕ) (d : PlainDone) (o : Option Term) → option_map (λ term. (performed r.world thread (sliced p thread term).ask).1) o ≡ Some d
       → (new : Run) × (option_map (λ term. turned_by p r thread (sliced p thread term)) o ≡ Some new)
   turn_leads r thread d None e = absurd (cc)
@@ -137,81 +109,171 @@ module _ (p : Program) (s : Bool) (followed : ℕ) (states : List Core) (edges :
         one_more = omega (arith, one);
       }
 
-  pub noted_at : (k : ℕ) (a : Past) (r : Run) (schedule : List Item) (thread : ℕ) (printed : List ℕ) (name : List ℕ) → k < followed → slice_get states k ≡ Some (core_of s a r)
-      → run y y.start schedule ≡ Some (core_of s a r) → is_allowed r.world (turn_of thread) ≡ true → deed p r (turn_of thread) ≡ Some (fails name) → printed ≡ output_of thread (fails name)
-      → (one : List Item) × Contains told (one, thread, printed)
-  noted_at k a r schedule thread printed name lt stands leads comes fault line =
-      let c = core_of s a r in
-      let i = turn_of thread in
-      let f = fails_at a r thread name comes fault in
-      let d = graph.done k c lt stands in
-      let mine : Contains d.0 i = elim d.1 [
-        | inl e ↦ subst (λ l. Contains l i) (sym e) (((is_lawful p s).lists c (schedule, leads)).only i f.next f.leads)
-        | inr q ↦ absurd (true≢false (sym q.1))
-      ] in
-      let on : LeadsOnBy edges k i = All-contains (LeadsOnBy edges k) d.0 i d.2 mine in
-      let n = All-contains (EdgeIsNoted p s states told) edges (k, i, on.0) noted on.1 c thread stands refl f in
-      let same : n.1.name ≡ name = fault_name n.1.name name (sym n.1.fault ∙ fault) in
-      let is : n.0 ≡ printed = n.1.line ∙ ap (λ m. output_of thread (fails m)) same ∙ sym line in
-      (n.2.0, subst (λ l. Contains told (n.2.0, thread, l)) is n.2.1)
+module _ (p : List (PlainItem ℕ)) (s : Bool) (keys : List PlainKept) where
+  abbrev states : List Core
+  states = map (core_kept p) keys
 
-  pub every_fault : (most : Option ℕ) → ((items : List Item) (c : Core) (thread : ℕ) → IsWithin most (items ++ turn_of thread ∷ []) → run y y.start items ≡ Some c
-      → (k : ℕ) × (k < followed) × (slice_get states k ≡ Some c)) → EveryFaultIsTold p most told
-  every_fault most found schedule thread printed within h =
-      let a = past p schedule in
-      let leads : run y y.start schedule ≡ Some (core_of s a h.run) = runs_core p s schedule ∙ ap (option_map (core_of s a)) h.leads in
-      let k = found schedule (core_of s a h.run) thread within leads in
-      noted_at k.0 a h.run schedule thread printed h.name k.1 k.2 leads h.comes h.fault h.line
+  abbrev y : System Core Item
+  y = program_system (text_of p) s
 
--- what was noted stays noted
-pub noted_longer : (p : Program) (s : Bool) (states : List Core) (old new : List (List Item × ℕ × List ℕ)) (e : ℕ × Item × ℕ) → IsLonger old new
-    → EdgeIsNoted p s states old e → EdgeIsNoted p s states new e
-noted_longer p s states old new e l h c thread stands owner f =
-    let n = h c thread stands owner f in
-    (n.0, n.1, (n.2.0, subst (λ m. Contains m (n.2.0, thread, n.0)) (sym l.1) (Contains-append_left old l.0 (n.2.0, thread, n.0) n.2.1)))
+  -- the state at a place
+  state_at : (k : ℕ) (a : PlainKept) → slice_get keys k ≡ Some a → slice_get states k ≡ Some (core_kept p a)
+  state_at k a h = slice_get-map (core_kept p) keys k ∙ ap (option_map (core_kept p)) h
 
--- by this edge no thread ends at a fault
-pub no_fault : (p : Program) (s : Bool) (states : List Core) (told : List (List Item × ℕ × List ℕ)) (e : ℕ × Item × ℕ) (edge : IsEdge (program_system p s) states e)
-    → edge.to.past.faults ≤ edge.from.past.faults → EdgeIsNoted p s states told e
-no_fault p s states told e edge few c thread at owner f =
-    let same : c ≡ edge.from = same_Some c edge.from (sym at ∙ edge.stands) in
-    let next : f.next ≡ edge.to = same_Some f.next edge.to (sym f.leads ∙ ap (λ x. core_step p s x e.1) same ∙ edge.leads) in
-    let a : c.past.faults ≡ edge.from.past.faults = ap (λ (x : Core). x.past.faults) same in
-    let b : f.next.past.faults ≡ edge.to.past.faults = ap (λ (x : Core). x.past.faults) next in
-    absurd (omega (arith, few, a, b, f.one_more))
+  -- where a thread stands in the state at a place
+  term_at : (k : ℕ) (thread : Tid) (a : PlainKept) → slice_get keys k ≡ Some a → slice_get (core_kept p a).terms thread.0 ≡ option_map (machine_term p) (stood_at keys k thread)
+  term_at k thread a h =
+      slice_get-map (machine_term p) a.machines thread.0
+      ∙ ap (option_map (machine_term p)) (sym (ap (option_and_then (λ (one : PlainKept). slice_get one.machines thread.0)) h))
 
--- the item of the edge is no turn
-pub no_turn : (p : Program) (s : Bool) (states : List Core) (told : List (List Item × ℕ × List ℕ)) (e : ℕ × Item × ℕ) → whose_turn e.1 ≡ None → EdgeIsNoted p s states told e
-no_turn p s states told e is c thread at owner f = let g : None ≡ Some thread = sym is ∙ owner in absurd (cc)
+  -- the thread ends at a fault from a core on
+  falls_from : (k : ℕ) (thread : Tid) (c : Core) → slice_get states k ≡ Some c → FaultsBy (text_of p) s c (Turn thread) → FallsFrom p s keys (k, thread)
+  falls_from k thread c at f =
+      let b = kept_behind p s keys k c at in
+      record { one = b.0; at = b.1; falls = subst (λ x. FaultsBy (text_of p) s x (Turn thread)) (sym b.2) f }
 
--- the item of the edge is a turn, whose fault was noted
-pub turn_noted : (p : Program) (s : Bool) (states : List Core) (told : List (List Item × ℕ × List ℕ)) (from to : ℕ) (thread : Tid)
-    → IfSome (slice_get states from) (λ c. FaultIsNoted p told c thread.0) → EdgeIsNoted p s states told (from, Turn thread, to)
-turn_noted p s states told from to thread h c t at owner f =
-    let same : thread.0 ≡ t = same_Some thread.0 t owner in
-    subst (FaultIsNoted p told c) same (at_some (λ x. FaultIsNoted p told x thread.0) (slice_get states from) c at h)
+  module _ (told : List (ℕ × Tid)) (each : All (FallsFrom p s keys) told) (schedules : List (List Item)) (made : AreSchedulesBy y states told (length told) schedules) where
+    -- such a schedule, and what was told by it
+    comes_so : (f : ℕ × Tid) (schedule : List Item) → Contains told f → IsScheduleBy y states f schedule → (stood : Term) → option_map (machine_term p) (stood_at keys f.0 f.1) ≡ Some stood
+        → FaultComesLast (text_of p) schedule f.1.0 stood
+    comes_so f schedule has so stood from =
+        let a = All-contains (FallsFrom p s keys) told f each has in
+        comes_last (text_of p) s so.before (core_kept p a.one) f.1.0 (so.leads ∙ state_at f.0 a.one a.at) a.falls schedule stood so.last (term_at f.0 f.1 a.one a.at ∙ from)
 
--- the item of the edge is a turn, at which its thread ends at a fault
-pub turn_fails : (p : Program) (s : Bool) (states : List Core) (from to : ℕ) (thread : Tid) (edge : IsEdge (program_system p s) states (from, Turn thread, to))
-    → edge.from.past.faults < edge.to.past.faults → IfSome (slice_get states from) (λ c. FaultsBy p s c (turn_of thread.0))
-turn_fails p s states from to thread edge lt =
-    let At : Option Core → Type 0 = λ o. IfSome o (λ c. FaultsBy p s c (turn_of thread.0)) in
-    subst At (sym edge.stands) (record { next = edge.to; leads = edge.leads; one_more = lt })
+    contains_at : {X : Type 0} (xs : List X) (i : ℕ) (x : X) → slice_get xs i ≡ Some x → Contains xs x
+    contains_at xs i x h = (i, slice_get_within xs i x h, get_or_from_slice_get xs i x x h)
 
--- the line that a turn prints, at the core to which the schedule leads
-pub line_at : (p : Program) (s : Bool) (schedule : List Item) (c : Core) (thread : ℕ) (printed : List ℕ) → run (program_system p s) (program_system p s).start schedule ≡ Some c
-    → FaultsBehind p schedule thread printed → IsLineAt p c thread printed
-line_at p s schedule c thread printed leads f =
-    let a = past p schedule in
-    let is : core_of s a f.run ≡ c = same_Some (core_of s a f.run) c (sym (runs_core p s schedule ∙ ap (option_map (core_of s a)) f.leads) ∙ leads) in
-    subst (λ x. IsLineAt p x thread printed) is (record { name = f.name; fault = f.fault; line = f.line })
+    has_fault : (i : ℕ) (schedule : List Item) → slice_get schedules i ≡ Some schedule → HasFault (text_of p) schedule
+    has_fault i schedule h =
+        let q = made.each i schedule h in
+        let has = contains_at told i q.0 q.1 in
+        let a = All-contains (FallsFrom p s keys) told q.0 each has in
+        let t = stands_somewhere (text_of p) s q.2.before (core_kept p a.one) q.0.1.0 (q.2.leads ∙ state_at q.0.0 a.one a.at) a.falls in
+        (q.0.1.0, t.0, comes_so q.0 schedule has q.2 t.0 (sym (term_at q.0.0 q.0.1 a.one a.at) ∙ t.1))
 
--- where a fault with this line is told, that of the turn is noted
-pub is_noted : (p : Program) (s : Bool) (states : List Core) (told : List (List Item × ℕ × List ℕ)) (place : ℕ) (schedule one : List Item) (thread : ℕ) (printed : List ℕ)
-    → run (program_system p s) (program_system p s).start schedule ≡ slice_get states place → FaultsBehind p schedule thread printed → Contains told (one, thread, printed)
-    → IfSome (slice_get states place) (λ c. FaultIsNoted p told c thread)
-is_noted p s states told place schedule one thread printed leads f has = by (slice_get states place) refl
+    -- the schedule that was made for what was told
+    pub record IsMadeFor (f : ℕ × Tid) : Type 0 where
+      pub one : List Item
+      pub has : Contains schedules one
+      pub so : IsScheduleBy y states f one
+
+    made_for : (f : ℕ × Tid) → Contains told f → IsMadeFor f
+    made_for f has =
+        let one = there schedules has.0 (omega (arith, made.count, has.1)) in
+        let q = made.each has.0 one.0 one.1 in
+        let same : q.0 ≡ f = same_Some q.0 f (sym q.1 ∙ place_of told f has) in
+        record { one = one.0; has = contains_at schedules has.0 one.0 one.1; so = subst (λ g. IsScheduleBy y states g one.0) same q.2 }
+
+    module _ (followed : ℕ) (edges : List (ℕ × Item × ℕ)) (graph : AreEdges y false followed states edges []) (noted : All (EdgeIsNoted p s keys told) edges)
+        (before : List Item) (c : Core) (leads : run y y.start before ≡ Some c) (thread : Tid) (falls : FaultsBy (text_of p) s c (Turn thread))
+        (stood : Term) (from : slice_get c.terms thread.0 ≡ Some stood) where
+      -- it was noted of the state at this place
+      noted_at : (k : ℕ) → k < followed → slice_get states k ≡ Some c → IsFallNoted keys told k thread
+      noted_at k lt at =
+          let d = graph.done k c lt at in
+          let mine : Contains d.0 (Turn thread) = elim d.1 [
+            | inl e ↦ subst (λ l. Contains l (Turn thread)) (sym e) (((is_lawful (text_of p) s).lists c (before, leads)).only (Turn thread) falls.next falls.leads)
+            | inr q ↦ absurd (true≢false (sym q.1))
+          ] in
+          let on : LeadsOnBy edges k (Turn thread) = All-contains (LeadsOnBy edges k) d.0 (Turn thread) d.2 mine in
+          All-contains (EdgeIsNoted p s keys told) edges (k, Turn thread, on.0) noted on.1 thread refl (falls_from k thread c at falls)
+
+      -- one by which the thread ends at a fault from where it stands the same, and that has no more items than so many and one
+      abbrev Shorter : Type 0
+      Shorter = (one : List Item) × Contains schedules one × FaultComesLast (text_of p) one thread.0 stood × (length one ≤ length before + 1)
+
+      from_noted : (k : ℕ) → slice_get states k ≡ Some c → ((j : ℕ) → j < k → slice_get states j ≡ Some c → Shorter) → IsFallNoted keys told k thread → Shorter
+      from_noted k at rest n =
+          let m = made_for (n.0, thread) n.1 in
+          let b = kept_behind p s keys k c at in
+          let here : option_map (machine_term p) (stood_at keys n.0 thread) ≡ Some stood =
+          ap (option_map (machine_term p)) n.3 ∙ sym (term_at k thread b.0 b.1) ∙ ap (λ (x : Core). slice_get x.terms thread.0) b.2 ∙ from in
+          let long : length m.one ≡ length m.so.before + 1 = ap length m.so.last ∙ length-append m.so.before (Turn thread ∷ []) in
+          elim (either_way (length m.so.before) (length before)) [
+            | inl few ↦ (m.one, m.has, comes_so (n.0, thread) m.one n.1 m.so stood here, omega (arith, few, long))
+            | inr less ↦ let q = m.so.fewest before c (leads, λ f. absurd (true≢false (sym f))) less in rest q.0 (omega (arith, q.1, n.2)) q.2
+          ]
+
+      -- Told is a schedule by the first place at which this core stands; it has no more items.
+      first_noted : (n k : ℕ) → k < n → k < followed → slice_get states k ≡ Some c → Shorter
+      first_noted zero k lt in' at = absurd (omega (arith, lt))
+      first_noted (suc n) k lt in' at = from_noted k at (λ j less there_. first_noted n j (omega (arith, less, lt)) (omega (arith, less, in')) there_) (noted_at k in' at)
+
+    pub are_faults : (followed : ℕ) (edges : List (ℕ × Item × ℕ)) → AreEdges y false followed states edges [] → All (EdgeIsNoted p s keys told) edges → (most : Option ℕ)
+        → AreFollowed y states followed most → AreFaults (text_of p) most schedules
+    are_faults followed edges graph noted most found = record {
+      each = all_from (HasFault (text_of p)) schedules has_fault;
+      all = λ schedule thread stood within h.
+          let c = core_of s (past (text_of p) h.before) h.run in
+          let leads : run y y.start h.before ≡ Some c = runs_core (text_of p) s h.before ∙ ap (option_map (core_of s (past (text_of p) h.before))) h.leads in
+          let k = found h.before c thread (subst (IsWithin most) h.last within) leads in
+          let f = fails_at (text_of p) s (past (text_of p) h.before) h.run thread h.name h.comes h.falls in
+          let one = first_noted followed edges graph noted h.before c leads (record { 0 = thread }) f stood h.from (suc k.0) k.0 (omega arith) k.1 k.2 in
+          (one.0, one.1, one.2, omega (arith, one.3, ap length h.last, length-append h.before (turn_of thread ∷ [])));
+    }
+
+  -- what was noted stays noted
+  pub noted_longer : (old new : List (ℕ × Tid)) (e : ℕ × Item × ℕ) → IsLonger old new → EdgeIsNoted p s keys old e → EdgeIsNoted p s keys new e
+  noted_longer old new e l h thread is falls =
+      let n = h thread is falls in
+      (n.0, subst (λ m. Contains m (n.0, thread)) (sym l.1) (Contains-append_left old l.0 (n.0, thread) n.1), n.2, n.3)
+
+  -- by this edge no thread ends at a fault
+  pub no_fault : (told : List (ℕ × Tid)) (e : ℕ × Item × ℕ) (edge : IsEdge y states e) → edge.to.past.faults ≤ edge.from.past.faults → EdgeIsNoted p s keys told e
+  no_fault told e edge few thread is f =
+      let same : core_kept p f.one ≡ edge.from = same_Some (core_kept p f.one) edge.from (sym (state_at e.0 f.one f.at) ∙ edge.stands) in
+      let next : f.falls.next ≡ edge.to =
+      same_Some f.falls.next edge.to (sym f.falls.leads ∙ ap (λ i. core_step (text_of p) s (core_kept p f.one) i) (sym is) ∙ ap (λ x. core_step (text_of p) s x e.1) same ∙ edge.leads) in
+      let a : f.one.faults ≡ edge.from.past.faults = ap (λ (x : Core). x.past.faults) same in
+      let b : f.falls.next.past.faults ≡ edge.to.past.faults = ap (λ (x : Core). x.past.faults) next in
+      absurd (omega (arith, few, a, b, f.falls.one_more))
+
+  -- the item of the edge is a turn, at which its thread ends at a fault
+  pub turn_falls : (from to : ℕ) (thread : Tid) (edge : IsEdge y states (from, Turn thread, to)) → edge.from.past.faults < edge.to.past.faults → FallsFrom p s keys (from, thread)
+  turn_falls from to thread edge lt = falls_from from thread edge.from edge.stands (record { next = edge.to; leads = edge.leads; one_more = lt })
+
+  -- what is told of a turn
+  pub turn_noted : (told : List (ℕ × Tid)) (from to : ℕ) (thread : Tid) → IsFallNoted keys told from thread → EdgeIsNoted p s keys told (from, Turn thread, to)
+  turn_noted told from to thread n t is f = by (same_turn is)
+    where
+      same_turn : Turn thread ≡ Turn t → thread ≡ t
+      same_turn e = cc
+
+      by : thread ≡ t → IsFallNoted keys told from t
+      by e = subst (IsFallNoted keys told from) e n
+
+  -- one more is told, or none
+  pub each_told : (old new : List (ℕ × Tid)) (f : ℕ × Tid) → All (FallsFrom p s keys) old → FallsFrom p s keys f → (new ≡ old) ⊎ (new ≡ old ++ f ∷ []) → All (FallsFrom p s keys) new
+  each_told old new f all one (inl e) = subst (All (FallsFrom p s keys)) (sym e) all
+  each_told old new f all one (inr e) = subst (All (FallsFrom p s keys)) (sym e) (All-push (FallsFrom p s keys) old f all one)
+
+pub told_longer : (old new : List (ℕ × Tid)) (f : ℕ × Tid) → (new ≡ old) ⊎ (new ≡ old ++ f ∷ []) → IsLonger old new
+told_longer old new f (inl e) = ([], e ∙ sym (append-nil old))
+told_longer old new f (inr e) = (f ∷ [], e)
+
+-- a thread that was told is among those that are
+pub is_noted : (keys : List PlainKept) (told new : List (ℕ × Tid)) (place : ℕ) (thread : Tid) → new ≡ told ++ (place, thread) ∷ [] → IsFallNoted keys new place thread
+is_noted keys told new place thread e = (place, subst (λ l. Contains l (place, thread)) (sym e) (Contains-push told (place, thread)), omega arith, refl)
+
+-- no schedule yet
+pub by_none : (y : System Core Item) (states : List Core) (told : List (ℕ × Tid)) (schedules : List (List Item)) → schedules ≡ [] → AreSchedulesBy y states told 0 schedules
+by_none y states told schedules e = subst (AreSchedulesBy y states told 0) (sym e) (record { count = refl; each = λ i one h. absurd (nothing i one h) })
   where
-    by : (o : Option Core) → slice_get states place ≡ o → IfSome o (λ c. FaultIsNoted p told c thread)
-    by None h = tt
-    by (Some c) h = (printed, line_at p s schedule c thread printed (leads ∙ h) f, (one, has))
+    nothing : (i : ℕ) (one : List Item) → slice_get [] i ≡ Some one → ⊥
+    nothing i one h = omega (arith, slice_get_within [] i one h)
+
+-- one schedule more
+pub by_more : (y : System Core Item) (states : List Core) (told : List (ℕ × Tid)) (n : ℕ) (f : ℕ × Tid) (schedules after : List (List Item)) (schedule : List Item)
+    → AreSchedulesBy y states told n schedules → after ≡ schedules ++ schedule ∷ [] → slice_get told n ≡ Some f → IsScheduleBy y states f schedule → AreSchedulesBy y states told (n + 1) after
+by_more y states told n f schedules after schedule t e at so = subst (AreSchedulesBy y states told (n + 1)) (sym e) here
+  where
+    by : (i : ℕ) (one : List Item) → (slice_get schedules i ≡ Some one) ⊎ ((i ≡ length schedules) × (schedule ≡ one))
+        → (g : ℕ × Tid) × (slice_get told i ≡ Some g) × IsScheduleBy y states g one
+    by i one (inl h) = t.each i one h
+    by i one (inr h) = let is : i ≡ n = h.0 ∙ t.count in (f, ap (slice_get told) is ∙ at, subst (IsScheduleBy y states f) h.1 so)
+
+    here : AreSchedulesBy y states told (n + 1) (schedules ++ schedule ∷ [])
+    here = record {
+      count = omega (arith, length-append schedules (schedule ∷ []), t.count);
+      each = λ i one h. by i one (get_push_cases schedules schedule i one h);
+    }

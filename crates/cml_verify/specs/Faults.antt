@@ -1,11 +1,11 @@
 -- What is promised of the faults and of the schedules without end that are told.
-use Rattle.std.specs.Prelude.{◌≡◌, ℕ, true, false, List, [], ◌∷◌, ◌++◌, Option, None, Some, Contains}
+use Rattle.std.specs.Prelude.{◌≡◌, ℕ, ◌≤◌, true, false, List, [], ◌∷◌, ◌++◌, length, Option, None, Some, slice_get, Contains}
 use Rattle.std.specs.List.{All}
 use Rattle.cml_schedule.specs.declared.item.Item.{Item}
 use Rattle.cml_schedule.specs.declared.item.Item.TheVariants.{Turn}
-use Rattle.cml_step.specs.Terms.{Program}
+use Rattle.cml_step.specs.Terms.{Program, Term}
 use Rattle.cml_hub.specs.Performed.{fails}
-use Rattle.cml_hub.specs.Runs.{Run, stands, is_allowed, output_of}
+use Rattle.cml_hub.specs.Runs.{Run, stands, is_allowed}
 use Rattle.cml_hub.specs.Deeds.{deed}
 use Rattle.cml_verify.specs.Verdicts.{HasEnd, IsWithin}
 
@@ -13,24 +13,30 @@ use Rattle.cml_verify.specs.Verdicts.{HasEnd, IsWithin}
 abbrev pub turn_of : ℕ → Item
 turn_of thread = Turn (record { 0 = thread })
 
--- Behind the schedule a turn of the thread can come; it ends the thread at a fault, and this line is printed.
-pub record FaultsBehind (p : Program) (schedule : List Item) (thread : ℕ) (printed : List ℕ) : Type 0 where
+-- The last item of the schedule is a turn of this thread, and can come. By it the thread ends at a fault, from where it stands so.
+pub record FaultComesLast (p : Program) (schedule : List Item) (thread : ℕ) (stood : Term) : Type 0 where
+  pub before : List Item
+  pub last : schedule ≡ before ++ turn_of thread ∷ []
   pub run : Run
-  pub leads : stands p schedule ≡ Some run
+  pub leads : stands p before ≡ Some run
   pub comes : is_allowed run.world (turn_of thread) ≡ true
+  pub from : slice_get run.terms thread ≡ Some stood
   pub name : List ℕ
-  pub fault : deed p run (turn_of thread) ≡ Some (fails name)
-  pub line : printed ≡ output_of thread (fails name)
+  pub falls : deed p run (turn_of thread) ≡ Some (fails name)
 
--- Of each turn (of schedules that have at most so many items with it) at which a thread ends at a fault, one with the same thread and the same
--- line is among these.
-abbrev pub EveryFaultIsTold : Program → Option ℕ → List (List Item × ℕ × List ℕ) → Type 0
-EveryFaultIsTold p most told = (schedule : List Item) (thread : ℕ) (printed : List ℕ) → IsWithin most (schedule ++ turn_of thread ∷ []) → FaultsBehind p schedule thread printed
-    → (one : List Item) × Contains told (one, thread, printed)
+-- by its last item a thread ends at a fault
+abbrev pub HasFault : Program → List Item → Type 0
+HasFault p schedule = (thread : ℕ) × (stood : Term) × FaultComesLast p schedule thread stood
 
--- each that is told is such a turn, and all such turns are told
-pub record AreFaults (p : Program) (most : Option ℕ) (told : List (List Item × ℕ × List ℕ)) : Type 0 where
-  pub each : All (λ f. FaultsBehind p f.0 f.1 f.2) told
+-- For each schedule (of at most so many items) by whose last item a thread ends at a fault, one by whose last item the same thread does so, from
+-- where it stands the same, and that has no more items, is among these.
+abbrev pub EveryFaultIsTold : Program → Option ℕ → List (List Item) → Type 0
+EveryFaultIsTold p most told = (schedule : List Item) (thread : ℕ) (stood : Term) → IsWithin most schedule → FaultComesLast p schedule thread stood
+    → (one : List Item) × Contains told one × FaultComesLast p one thread stood × (length one ≤ length schedule)
+
+-- by the last item of each that is told a thread ends at a fault, and each thread that does so is told
+pub record AreFaults (p : Program) (most : Option ℕ) (told : List (List Item)) : Type 0 where
+  pub each : All (HasFault p) told
   pub all : EveryFaultIsTold p most told
 
 -- The schedule leads somewhere, and whatever comes behind it, it does not end.

@@ -7,5 +7,4 @@ pub mod Ends
 pub mod Digests
 pub mod Placed
 pub mod Faults
-pub mod Failing
-pub mod Told
+pub mod Falling

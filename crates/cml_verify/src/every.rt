@@ -1,15 +1,15 @@
 //! Every schedule of a program.
 
-ghost use Rattle.std.specs.Prelude.{◌≡◌, ◌<◌, ◌+◌, ℕ, List, Some, IfNone, IfOk, IfSome, IsTrue, true, false, Contains, length, map, option_map, slice_get};
+ghost use Rattle.std.specs.Prelude.{◌≡◌, ◌<◌, ◌+◌, [], ℕ, List, Some, IfNone, IfOk, IfSome, IsTrue, true, false, Contains, length, map, option_map, slice_get};
 ghost use Rattle.std.specs.List.{All};
 ghost use Rattle.cml_schedule.specs.declared.item.Item.{Item};
-ghost use Rattle.cml_search.specs.{Systems.{run, IsReached}, Searches.{IsSearch, IsSought, IsFoundBefore, AreEdges}, Marks.{ArePlacesOf}};
+ghost use Rattle.cml_search.specs.{Systems.{run, IsReached}, Searches.{IsSearch, IsSought, AreEdges}, Marks.{ArePlacesOf}};
 ghost use Rattle.cml_hub.specs.Runs.{terminal};
 ghost use Rattle.cml_step.specs.Calls.{text_of};
-ghost use Rattle.cml_verify.specs.{Cores.{Core, program_system}, Ends.{AreSchedulesTo}, Kept.{core_kept}, Placed.{AreThreadsIn}, Verdicts.{IsWithin, IsVerdict}, Faults.{turn_of, AreFaults, NeverEnds, CanAlwaysEnd, IsUnending}, Told.{plain_failing}};
+ghost use Rattle.cml_verify.specs.{Cores.{Core, program_system}, Ends.{AreSchedulesTo}, Kept.{core_kept}, Placed.{AreThreadsIn}, Verdicts.{IsWithin, IsVerdict}, Faults.{AreFaults, NeverEnds, CanAlwaysEnd, IsUnending}, Falling.{AreFollowed}};
 
 use crate::ends::places_of_ends;
-use crate::faults::{Failing, all_faults};
+use crate::faults::all_faults;
 use crate::kept::Kept;
 use crate::placed::are_placed;
 use crate::schedules::Schedules;
@@ -26,8 +26,9 @@ pub struct Verdict {
     pub ends: Vec<Vec<Item>>,
     /// How many states were found, no two of them the same.
     pub states: usize,
-    /// The faults at which threads end, by thread and line, each with a schedule to where it comes.
-    pub faults: Vec<Failing>,
+    /// Schedules by whose last items threads end at faults, among them a shortest one for each thread that does so and each place where it can
+    /// stand before that.
+    pub faults: Vec<Vec<Item>>,
     /// A schedule that never ends, whatever comes behind it, if every schedule was examined and there is one.
     pub unending: Option<Vec<Item>>,
     /// Nothing, if every schedule was examined. Else the search stopped at the first state beyond the bound, and the schedules of at most so many
@@ -68,9 +69,7 @@ fn reach_of(system: &Schedules, found: &Found<Kept, Item>) -> Option<usize>
     ensures led { (k : ℕ) (c : Core) → slice_get (map (core_kept system.now.program) found.now.kept.keys) k ≡ Some c → (items : List Item)
         × (run (program_system (text_of system.now.program) system.now.with_output) (program_system (text_of system.now.program) system.now.with_output).start items ≡ Some c)
         × IsWithin (option_map (λ m. m + 1) result) items }
-    ensures followed { (items : List Item) (c : Core) (thread : ℕ) → IsWithin result (items ++ turn_of thread ∷ [])
-        → run (program_system (text_of system.now.program) system.now.with_output) (program_system (text_of system.now.program) system.now.with_output).start items ≡ Some c
-        → IsFoundBefore (map (core_kept system.now.program) found.now.kept.keys) found.now.followed c }
+    ensures followed { AreFollowed (program_system (text_of system.now.program) system.now.with_output) (map (core_kept system.now.program) found.now.kept.keys) found.now.followed result }
     ensures stopped { IfSome result (λ most. found.now.whole ≡ false) }
     ensures whole { IfNone result (IsTrue found.now.whole) }
 {
@@ -131,7 +130,7 @@ fn count_of(found: &Found<Kept, Item>) -> usize
 fn examine(alloc: Global, program: &Prog, with_output: bool, bound: usize) -> Result<Verdict, Gap>
     requires { 0 < bound }
     ensures verdict { IfOk result (λ v. IsVerdict program.now with_output bound v.reach (map (λ schedule. schedule.items) v.ends.items) v.states) }
-    ensures faults { IfOk result (λ v. AreFaults (text_of program.now) v.reach (map plain_failing v.faults.items)) }
+    ensures faults { IfOk result (λ v. AreFaults (text_of program.now) v.reach (map (λ schedule. schedule.items) v.faults.items)) }
     ensures unending { IfOk result (λ v. IsUnending (text_of program.now) v.reach (option_map (λ schedule. schedule.items) v.unending)) }
 {
     let again = program.copy()?;
@@ -167,7 +166,7 @@ fn examine(alloc: Global, program: &Prog, with_output: bool, bound: usize) -> Re
 pub fn verify(alloc: Global, program: &Prog, bound: usize) -> Result<Verdict, Gap>
     requires { 0 < bound }
     ensures verdict { IfOk result (λ v. IsVerdict program.now false bound v.reach (map (λ schedule. schedule.items) v.ends.items) v.states) }
-    ensures faults { IfOk result (λ v. AreFaults (text_of program.now) v.reach (map plain_failing v.faults.items)) }
+    ensures faults { IfOk result (λ v. AreFaults (text_of program.now) v.reach (map (λ schedule. schedule.items) v.faults.items)) }
     ensures unending { IfOk result (λ v. IsUnending (text_of program.now) v.reach (option_map (λ schedule. schedule.items) v.unending)) }
 {
     examine(alloc, program, false, bound)
@@ -181,7 +180,7 @@ pub fn verify(alloc: Global, program: &Prog, bound: usize) -> Result<Verdict, Ga
 pub fn outcomes(alloc: Global, program: &Prog, bound: usize) -> Result<Verdict, Gap>
     requires { 0 < bound }
     ensures verdict { IfOk result (λ v. IsVerdict program.now true bound v.reach (map (λ schedule. schedule.items) v.ends.items) v.states) }
-    ensures faults { IfOk result (λ v. AreFaults (text_of program.now) v.reach (map plain_failing v.faults.items)) }
+    ensures faults { IfOk result (λ v. AreFaults (text_of program.now) v.reach (map (λ schedule. schedule.items) v.faults.items)) }
     ensures unending { IfOk result (λ v. IsUnending (text_of program.now) v.reach (option_map (λ schedule. schedule.items) v.unending)) }
 {
     examine(alloc, program, true, bound)

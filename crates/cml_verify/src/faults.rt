@@ -1,111 +1,77 @@
 //! The faults at which threads end.
 
-ghost use Rattle.std.specs.Prelude.{◌≡◌, ◌<◌, Bool, List, IfOk, IfSome, IsTrue, OnOk, false, Contains, length, map, slice_get};
+ghost use Rattle.std.specs.Prelude.{◌≡◌, ◌<◌, ◌++◌, ◌∷◌, [], ◌⊎◌, ℕ, Option, IfOk, IsTrue, OnOk, false, length, map};
 ghost use Rattle.std.specs.List.{All};
-ghost use Rattle.cml_search.specs.{Systems.{LeadsTo}, Searches.{IsLonger, IsSearch, IsEdge}};
-ghost use Rattle.cml_schedule.specs.declared.item.Item.{Item};
+ghost use Rattle.cml_search.specs.Searches.{IsLonger, IsSearch, IsEdge, AreEdges};
 ghost use Rattle.cml_step.specs.Calls.{text_of};
-ghost use Rattle.cml_verify.specs.{Cores.{program_system}, Kept.{core_kept}, Faults.{FaultsBehind, turn_of}, Failing.{FaultsBy, FaultIsNoted, EdgeIsNoted}, Told.{plain_failing, FailsAt}};
+ghost use Rattle.cml_verify.specs.{Cores.{program_system}, Kept.{core_kept}, Faults.{AreFaults}, Falling.{FallsFrom, stood_at, IsFallNoted, EdgeIsNoted, IsScheduleBy, AreSchedulesBy, AreFollowed}};
 
 use crate::kept::Kept;
-use crate::schedules::{Schedules, hub_after};
-use cml_check::Prog;
+use crate::same::Same;
+use crate::schedules::Schedules;
 use cml_hub::Item;
 use cml_search::{Found, Gap, schedule_to};
 use cml_value::Tid;
 use std::alloc::{AllocError, Global};
 
-/// A turn at which a thread ends at a fault.
-#[derive(Drop)]
-pub struct Failing {
-    /// A schedule that leads to where the turn comes.
-    pub schedule: Vec<Item>,
-    /// The thread.
-    pub thread: Tid,
-    /// The line that is printed of the fault.
-    pub line: Vec<u8>,
-}
-
-// The line that is printed where a turn of the thread comes behind the schedule, and ends it at a fault.
-fn line_of(
-    alloc: Global,
-    program: &Prog,
-    schedule: &[Item],
-    thread: Tid,
-) -> Result<Vec<u8>, AllocError>
-    requires { (with_output : Bool) × LeadsTo (program_system (text_of program.now) with_output) schedule.now (λ c. FaultsBy (text_of program.now) with_output c (turn_of thread.0)) }
-    ensures { IfOk result (λ line. FaultsBehind (text_of program.now) schedule.now thread.0 line.items) }
+// Whether the thread stands the same in the states at both places.
+fn stands_the_same(kept: &[Kept], place: usize, other: usize, thread: Tid) -> bool
+    requires place { place < length kept.now }
+    requires other { other < length kept.now }
+    ensures { IsTrue result → stood_at kept.now place thread ≡ stood_at kept.now other thread }
 {
-    let mut hub = hub_after(alloc, program, schedule)?;
-    let before = hub.out().len();
-    let came = hub.follow(alloc, Item::Turn(thread))?;
-    if !came {
-        unreachable!();
+    let one = kept[place].machines().get(thread.0 as usize);
+    let second = kept[other].machines().get(thread.0 as usize);
+    match (one, second) {
+        (Some(machine), Some(others)) => Same::same(machine, others),
+        _ => false,
     }
-    let bytes = hub.out().as_bytes();
-    let line = Vec::from_slice(alloc, &bytes[before..])?;
-    Ok(line)
 }
 
-// Whether a fault of this thread with this line was told.
-fn is_told(told: &[Failing], thread: Tid, line: &[u8]) -> bool
-    ensures { IsTrue result → (one : List Item) × Contains (map plain_failing told.now) (one, thread.0, line.now) }
+// Whether the thread was told with this place, or with one before it at which it stands the same.
+fn is_told(kept: &[Kept], told: &[(usize, Tid)], place: usize, thread: Tid) -> bool
+    requires place { place < length kept.now }
+    ensures { IsTrue result → IsFallNoted kept.now told.now place thread }
 {
     for one in told {
-        if one.thread == thread && one.line.as_slice() == line {
+        let (before, other) = *one;
+        if other == thread && before <= place && stands_the_same(kept, before, place, thread) {
             return true;
         }
     }
     false
 }
 
-// Notes the fault at which a turn of the thread ends it from the state at this place on, if none with the same line was told.
+// Tells the thread with this place, if it was not told with one before it at which it stands the same.
 fn note(
-    alloc: Global,
-    system: &Schedules,
-    found: &Found<Kept, Item>,
-    told: &mut Vec<Failing>,
+    kept: &[Kept],
+    told: &mut Vec<(usize, Tid)>,
     place: usize,
     thread: Tid,
-) -> Result<(), Gap>
-    requires search { IsSearch (program_system (text_of system.now.program) system.now.with_output) false found.now.followed (map (core_kept system.now.program) found.now.kept.keys) found.now.origins.items }
-    requires any { found.now.quietly ≡ false }
-    requires within { place < length found.now.kept.keys }
-    requires fails { IfSome (slice_get (map (core_kept system.now.program) found.now.kept.keys) place) (λ c. FaultsBy (text_of system.now.program) system.now.with_output c (turn_of thread.0)) }
-    requires each { All (FailsAt (text_of system.now.program)) (map plain_failing told.old.items) }
-    ensures each { OnOk result (All (FailsAt (text_of system.now.program)) (map plain_failing told.new.items)) }
-    ensures longer { OnOk result (IsLonger (map plain_failing told.old.items) (map plain_failing told.new.items)) }
-    ensures noted { OnOk result (IfSome (slice_get (map (core_kept system.now.program) found.now.kept.keys) place)
-        (λ c. FaultIsNoted (text_of system.now.program) (map plain_failing told.new.items) c thread.0)) }
+) -> Result<(), AllocError>
+    requires place { place < length kept.now }
+    ensures more { OnOk result ((told.new.items ≡ told.old.items) ⊎ (told.new.items ≡ told.old.items ++ (place, thread) ∷ [])) }
+    ensures noted { OnOk result (IsFallNoted kept.now told.new.items place thread) }
 {
-    let schedule = schedule_to(alloc, system, found, place)?;
-    let line = line_of(alloc, &system.program, schedule.as_slice(), thread)?;
-    if is_told(told.as_slice(), thread, line.as_slice()) {
+    if is_told(kept, told.as_slice(), place, thread) {
         return Ok(());
     }
-    told.push(Failing {
-        schedule,
-        thread,
-        line,
-    })?;
+    told.push((place, thread))?;
     Ok(())
 }
 
-// Notes the fault of this edge, if by it a thread ends at one.
+// Tells the thread that ends at a fault by this edge, if one does.
 fn note_edge(
-    alloc: Global,
     system: &Schedules,
     found: &Found<Kept, Item>,
-    told: &mut Vec<Failing>,
+    told: &mut Vec<(usize, Tid)>,
     edge: (usize, Item, usize),
-) -> Result<(), Gap>
-    requires search { IsSearch (program_system (text_of system.now.program) system.now.with_output) false found.now.followed (map (core_kept system.now.program) found.now.kept.keys) found.now.origins.items }
-    requires any { found.now.quietly ≡ false }
+) -> Result<(), AllocError>
     requires edge { IsEdge (program_system (text_of system.now.program) system.now.with_output) (map (core_kept system.now.program) found.now.kept.keys) edge }
-    requires each { All (FailsAt (text_of system.now.program)) (map plain_failing told.old.items) }
-    ensures each { OnOk result (All (FailsAt (text_of system.now.program)) (map plain_failing told.new.items)) }
-    ensures longer { OnOk result (IsLonger (map plain_failing told.old.items) (map plain_failing told.new.items)) }
-    ensures noted { OnOk result (EdgeIsNoted (text_of system.now.program) system.now.with_output (map (core_kept system.now.program) found.now.kept.keys) (map plain_failing told.new.items) edge) }
+    requires each { All (FallsFrom system.now.program system.now.with_output found.now.kept.keys) told.old.items }
+    ensures each { OnOk result (All (FallsFrom system.now.program system.now.with_output found.now.kept.keys) told.new.items) }
+    ensures longer { OnOk result (IsLonger told.old.items told.new.items) }
+    ensures noted { OnOk result (EdgeIsNoted system.now.program system.now.with_output found.now.kept.keys told.new.items edge) }
 {
     let (from, item, to) = edge;
     let kept = found.kept();
@@ -113,28 +79,82 @@ fn note_edge(
         return Ok(());
     }
     match item {
-        Item::Turn(thread) => note(alloc, system, found, told, from, thread),
+        Item::Turn(thread) => note(kept, told, from, thread),
         Item::Meet(_) => Ok(()),
         Item::Exchange(_) => Ok(()),
         Item::Clock(_) => Ok(()),
     }
 }
 
-/// The faults at which threads end by the items that were followed, each thread with each line once.
+// The threads that end at faults by the items that were followed, each with the place before it.
+fn places_of_faults(
+    alloc: Global,
+    system: &Schedules,
+    found: &Found<Kept, Item>,
+) -> Result<Vec<(usize, Tid)>, AllocError>
+    requires { All (IsEdge (program_system (text_of system.now.program) system.now.with_output) (map (core_kept system.now.program) found.now.kept.keys)) found.now.edges.items }
+    ensures each { IfOk result (λ told. All (FallsFrom system.now.program system.now.with_output found.now.kept.keys) told.items) }
+    ensures noted { IfOk result (λ told. All (EdgeIsNoted system.now.program system.now.with_output found.now.kept.keys told.items) found.now.edges.items) }
+{
+    let mut told = Vec::new(alloc);
+    for edge in found.edges() {
+        note_edge(system, found, &mut told, *edge)?;
+    }
+    Ok(told)
+}
+
+// A schedule to the state at this place, and then the turn of the thread.
+fn schedule_by(
+    alloc: Global,
+    system: &Schedules,
+    found: &Found<Kept, Item>,
+    place: usize,
+    thread: Tid,
+) -> Result<Vec<Item>, Gap>
+    requires search { IsSearch (program_system (text_of system.now.program) system.now.with_output) false found.now.followed (map (core_kept system.now.program) found.now.kept.keys) found.now.origins.items }
+    requires any { found.now.quietly ≡ false }
+    requires within { place < length found.now.kept.keys }
+    ensures { IfOk result (λ schedule. IsScheduleBy (program_system (text_of system.now.program) system.now.with_output) (map (core_kept system.now.program) found.now.kept.keys) (place, thread) schedule.items) }
+{
+    let mut schedule = schedule_to(alloc, system, found, place)?;
+    schedule.push(Item::Turn(thread))?;
+    Ok(schedule)
+}
+
+// Such a schedule for each of these.
+fn schedules_by(
+    alloc: Global,
+    system: &Schedules,
+    found: &Found<Kept, Item>,
+    told: &[(usize, Tid)],
+) -> Result<Vec<Vec<Item>>, Gap>
+    requires search { IsSearch (program_system (text_of system.now.program) system.now.with_output) false found.now.followed (map (core_kept system.now.program) found.now.kept.keys) found.now.origins.items }
+    requires any { found.now.quietly ≡ false }
+    requires each { All (FallsFrom system.now.program system.now.with_output found.now.kept.keys) told.now }
+    ensures { IfOk result (λ schedules. AreSchedulesBy (program_system (text_of system.now.program) system.now.with_output) (map (core_kept system.now.program) found.now.kept.keys) told.now (length told.now)
+        (map (λ schedule. schedule.items) schedules.items)) }
+{
+    let mut schedules = Vec::new(alloc);
+    for one in told {
+        let (place, thread) = *one;
+        let schedule = schedule_by(alloc, system, found, place, thread)?;
+        schedules.push(schedule)?;
+    }
+    Ok(schedules)
+}
+
+/// For each thread that ends at a fault, and from each place where it can stand before that, a shortest schedule whose last item is that turn.
 pub(crate) fn all_faults(
     alloc: Global,
     system: &Schedules,
     found: &Found<Kept, Item>,
-) -> Result<Vec<Failing>, Gap>
+) -> Result<Vec<Vec<Item>>, Gap>
     requires search { IsSearch (program_system (text_of system.now.program) system.now.with_output) false found.now.followed (map (core_kept system.now.program) found.now.kept.keys) found.now.origins.items }
     requires any { found.now.quietly ≡ false }
-    requires edges { All (IsEdge (program_system (text_of system.now.program) system.now.with_output) (map (core_kept system.now.program) found.now.kept.keys)) found.now.edges.items }
-    ensures each { IfOk result (λ told. All (FailsAt (text_of system.now.program)) (map plain_failing told.items)) }
-    ensures noted { IfOk result (λ told. All (EdgeIsNoted (text_of system.now.program) system.now.with_output (map (core_kept system.now.program) found.now.kept.keys) (map plain_failing told.items)) found.now.edges.items) }
+    requires edges { AreEdges (program_system (text_of system.now.program) system.now.with_output) false found.now.followed (map (core_kept system.now.program) found.now.kept.keys) found.now.edges.items [] }
+    ensures { IfOk result (λ told. (most : Option ℕ) → AreFollowed (program_system (text_of system.now.program) system.now.with_output) (map (core_kept system.now.program) found.now.kept.keys) found.now.followed most
+        → AreFaults (text_of system.now.program) most (map (λ schedule. schedule.items) told.items)) }
 {
-    let mut told = Vec::new(alloc);
-    for edge in found.edges() {
-        note_edge(alloc, system, found, &mut told, *edge)?;
-    }
-    Ok(told)
+    let told = places_of_faults(alloc, system, found)?;
+    schedules_by(alloc, system, found, told.as_slice())
 }

@@ -14,4 +14,3 @@ mod schedules;
 
 pub use cml_search::Gap;
 pub use every::{Verdict, outcomes, verify};
-pub use faults::Failing;

@@ -21,8 +21,8 @@ pub struct Schedules {
     pub(crate) with_output: bool,
 }
 
-/// The hub that has gone through a schedule that leads somewhere.
-pub(crate) fn hub_after(alloc: Global, program: &Prog, schedule: &[Item]) -> Result<Hub, AllocError>
+// The hub that has gone through a schedule that leads somewhere.
+fn hub_after(alloc: Global, program: &Prog, schedule: &[Item]) -> Result<Hub, AllocError>
     requires { (with_output : Bool) × IsSchedule (program_system (text_of program.now) with_output) schedule.now }
     ensures { IfOk result (λ hub. IsAfter program.now schedule.now hub) }
 {
