@@ -28,7 +28,7 @@ pub record FallsFrom (p : List (PlainItem ℕ)) (with_output : Bool) (kept : Lis
 
 -- the machine of the thread in the state at this place
 abbrev pub stood_at : List PlainKept → ℕ → Tid → Option PlainMachine
-stood_at kept place thread = option_and_then (λ one. slice_get one.machines thread.0) (slice_get kept place)
+stood_at kept place thread = option_and_then (λ (one : PlainKept). slice_get one.machines thread.0) (slice_get kept place)
 
 -- the thread is among these with this place, or with one before it at which it stands the same
 abbrev pub IsFallNoted : List PlainKept → List (ℕ × Tid) → ℕ → Tid → Type 0

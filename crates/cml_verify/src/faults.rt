@@ -7,7 +7,6 @@ ghost use Rattle.cml_step.specs.Calls.{text_of};
 ghost use Rattle.cml_verify.specs.{Cores.{program_system}, Kept.{core_kept}, Faults.{AreFaults}, Falling.{FallsFrom, stood_at, IsFallNoted, EdgeIsNoted, IsScheduleBy, AreSchedulesBy, AreFollowed}};
 
 use crate::kept::Kept;
-use crate::same::Same;
 use crate::schedules::Schedules;
 use cml_hub::Item;
 use cml_search::{Found, Gap, schedule_to};
@@ -23,7 +22,7 @@ fn stands_the_same(kept: &[Kept], place: usize, other: usize, thread: Tid) -> bo
     let one = kept[place].machines().get(thread.0 as usize);
     let second = kept[other].machines().get(thread.0 as usize);
     match (one, second) {
-        (Some(machine), Some(others)) => Same::same(machine, others),
+        (Some(machine), Some(others)) => machine.same(others),
         _ => false,
     }
 }
