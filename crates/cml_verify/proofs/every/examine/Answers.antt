@@ -4,7 +4,7 @@ use Rattle.std.specs.Prelude.{IsTrue}
 use Rattle.cml_step.specs.Calls.{text_of}
 use Rattle.cml_verify.specs.{Cores.{program_system}, Kept.{PlainKept, core_kept}, Ends.{AreSchedulesTo}, Placed.{AreThreadsIn}}
 use Rattle.cml_verify.proofs.Verdicts.{each_ends, every_end, stops_late, ends_within}
-use Rattle.cml_verify.proofs.States.{are_counted}
+use Rattle.cml_verify.proofs.States.{are_counted, lead_apart}
 use Rattle.cml_verify.proofs.Unending.{are_places, unending_is}
 use Rattle.cml_verify.proofs.every.examine.Goals as goal
 
@@ -39,7 +39,8 @@ returns-clause-verdict c =
       counted =
           are_counted p o keys most all c.kept-kept.ensures.once
           (subst (All (λ (one : PlainKept). AreThreadsIn p one.machines)) c.kept-kept.ensures.kept (c.all_placed.ensures (grind arith)))
-          (rw c.in_ok-again.ensures at c.reach_of-reach.ensures.led) c.count_of-states.result c.count_of-states.ensures;
+          (rw c.in_ok-again.ensures at c.reach_of-reach.ensures.led) c.count_of-states.result c.count_of-states.ensures told
+          (lead_apart p o keys places told lead (rw c.kept-kept.ensures.kept at c.in_ok-places.ensures.within) c.in_ok-places.ensures.apart);
     }
 
 pub all_faults-requires-clause-search : goal.all_faults-requires-clause-search
