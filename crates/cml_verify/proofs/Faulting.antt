@@ -1,9 +1,10 @@
 -- Where a thread ends at a fault.
-use Rattle.std.proofs.Common.{◌≡◌, ℕ, zero, suc, ◌+◌, ◌<◌, ◌≤◌, Bool, true, false, if◌then◌else◌, List, [], ◌∷◌, ◌++◌, length, map, Option, Some, None, slice_get, Contains}
+use Rattle.std.proofs.Common.{◌≡◌, ℕ, zero, suc, ◌+◌, ◌<◌, ◌≤◌, Bool, true, false, if◌then◌else◌, List, [], ◌∷◌, ◌++◌, length, map, take, Option, Some, None, slice_get, Contains}
 use Rattle.std.proofs.Common.{◌⊎◌, inl, inr, refl, ap, sym, subst, ◌∙◌, arith, true≢false, length-append, append-nil}
 use Rattle.std.specs.Prelude.{option_map, option_and_then, count_by}
 use Rattle.std.specs.List.{All}
-use Rattle.std.proofs.lemmas.List.Elements.{All-contains, All-push, Contains-append_left, Contains-push}
+use Rattle.std.proofs.lemmas.List.Elements.{All-contains, All-more, All-push, All-weaker, Contains-append_left, Contains-push}
+use Rattle.std.proofs.lemmas.List.{length-map}
 use Rattle.std.proofs.lemmas.Option.{same_Some, slice_get-map, slice_get_within, get_or_from_slice_get}
 use Rattle.cml_check.specs.Syntax.{PlainItem}
 use Rattle.cml_value.specs.declared.number.Tid.{Tid}
@@ -19,7 +20,7 @@ use Rattle.cml_hub.specs.Deeds.{deed, after_deed, is_fault}
 use Rattle.cml_search.specs.Systems.{System, run}
 use Rattle.cml_search.specs.Searches.{IsLonger, LeadsOnBy, IsEdge, AreEdges}
 use Rattle.cml_search.proofs.Places.{there, place_of, either_way, get_push_cases}
-use Rattle.cml_verify.specs.Cores.{Past, past, more, Core, core_of, run_at, done_by, core_step, program_system}
+use Rattle.cml_verify.specs.Cores.{Past, past, more, Core, core_of, run_at, done_by, core_step, whose_turn, program_system}
 use Rattle.cml_verify.specs.Kept.{PlainKept, core_kept}
 use Rattle.cml_verify.specs.Verdicts.{IsWithin}
 use Rattle.cml_verify.specs.Faults.{turn_of, FaultComesLast, HasFault, AreFaults}
@@ -218,6 +219,14 @@ module _ (p : List (PlainItem ℕ)) (s : Bool) (keys : List PlainKept) where
       let n = h thread is falls in
       (n.0, subst (λ m. Contains m (n.0, thread)) (sym l.1) (Contains-append_left old l.0 (n.0, thread) n.1), n.2, n.3)
 
+  -- one edge more
+  pub noted_more : (edges : List (ℕ × Item × ℕ)) (i : ℕ) (e : ℕ × Item × ℕ) (old new : List (ℕ × Tid)) → slice_get edges i ≡ Some e → IsLonger old new
+      → All (EdgeIsNoted p s keys old) (take i edges) → EdgeIsNoted p s keys new e → All (EdgeIsNoted p s keys new) (take (i + 1) edges)
+  noted_more edges i e old new at l before one =
+      All-more (EdgeIsNoted p s keys new) edges i e (slice_get_within edges i e at)
+      (All-weaker (EdgeIsNoted p s keys old) (EdgeIsNoted p s keys new) (λ x h. noted_longer old new x l h) (take i edges) before)
+      (subst (EdgeIsNoted p s keys new) (sym (get_or_from_slice_get edges i e e at)) one)
+
   -- by this edge no thread ends at a fault
   pub no_fault : (told : List (ℕ × Tid)) (e : ℕ × Item × ℕ) (edge : IsEdge y states e) → edge.to.past.faults ≤ edge.from.past.faults → EdgeIsNoted p s keys told e
   no_fault told e edge few thread is f =
@@ -228,19 +237,36 @@ module _ (p : List (PlainItem ℕ)) (s : Bool) (keys : List PlainKept) where
       let b : f.falls.next.past.faults ≡ edge.to.past.faults = ap (λ (x : Core). x.past.faults) next in
       absurd (omega (arith, few, a, b, f.falls.one_more))
 
+  -- how many threads have ended at faults where the edge begins and where it leads
+  pub edge_counts : (e : ℕ × Item × ℕ) (edge : IsEdge y states e) (few many : ℕ) → ((a : PlainKept) → slice_get keys e.0 ≡ Some a → few ≡ a.faults)
+      → ((b : PlainKept) → slice_get keys e.2 ≡ Some b → many ≡ b.faults) → (few ≡ edge.from.past.faults) × (many ≡ edge.to.past.faults)
+  edge_counts e edge few many f g =
+      let a = kept_behind p s keys e.0 edge.from edge.stands in
+      let b = kept_behind p s keys e.2 edge.to edge.there in
+      (f a.0 a.1 ∙ ap (λ (x : Core). x.past.faults) a.2, g b.0 b.1 ∙ ap (λ (x : Core). x.past.faults) b.2)
+
+  -- the edge leads from one place to another
+  pub edge_within : (e : ℕ × Item × ℕ) → IsEdge y states e → (e.0 < length keys) × (e.2 < length keys)
+  edge_within e edge = (
+    omega (arith, slice_get_within states e.0 edge.from edge.stands, length-map keys (core_kept p)),
+    omega (arith, slice_get_within states e.2 edge.to edge.there, length-map keys (core_kept p)),
+  )
+
   -- the item of the edge is a turn, at which its thread ends at a fault
-  pub turn_falls : (from to : ℕ) (thread : Tid) (edge : IsEdge y states (from, Turn thread, to)) → edge.from.past.faults < edge.to.past.faults → FallsFrom p s keys (from, thread)
-  turn_falls from to thread edge lt = falls_from from thread edge.from edge.stands (record { next = edge.to; leads = edge.leads; one_more = lt })
+  pub turn_falls : (e : ℕ × Item × ℕ) (edge : IsEdge y states e) (thread : Tid) → e.1 ≡ Turn thread → edge.from.past.faults < edge.to.past.faults → FallsFrom p s keys (e.0, thread)
+  turn_falls e edge thread is lt =
+      falls_from e.0 thread edge.from edge.stands (record { next = edge.to; leads = ap (core_step (text_of p) s edge.from) (sym is) ∙ edge.leads; one_more = lt })
 
   -- what is told of a turn
-  pub turn_noted : (told : List (ℕ × Tid)) (from to : ℕ) (thread : Tid) → IsFallNoted keys told from thread → EdgeIsNoted p s keys told (from, Turn thread, to)
-  turn_noted told from to thread n t is f = by (same_turn is)
-    where
-      same_turn : Turn thread ≡ Turn t → thread ≡ t
-      same_turn e = cc
+  same_turn : (t u : Tid) → Turn t ≡ Turn u → t ≡ u
+  same_turn t u e = cc
 
-      by : thread ≡ t → IsFallNoted keys told from t
-      by e = subst (IsFallNoted keys told from) e n
+  pub turn_noted : (told : List (ℕ × Tid)) (e : ℕ × Item × ℕ) (thread : Tid) → e.1 ≡ Turn thread → IsFallNoted keys told e.0 thread → EdgeIsNoted p s keys told e
+  turn_noted told e thread is n t at f = subst (IsFallNoted keys told e.0) (same_turn thread t (sym is ∙ at)) n
+
+  -- the item of the edge is no turn
+  pub no_turn : (told : List (ℕ × Tid)) (e : ℕ × Item × ℕ) → whose_turn e.1 ≡ None → EdgeIsNoted p s keys told e
+  no_turn told e none t at f = let g : None ≡ Some t.0 = sym none ∙ ap whose_turn at in absurd (cc)
 
   -- one more is told, or none
   pub each_told : (old new : List (ℕ × Tid)) (f : ℕ × Tid) → All (FallsFrom p s keys) old → FallsFrom p s keys f → (new ≡ old) ⊎ (new ≡ old ++ f ∷ []) → All (FallsFrom p s keys) new

@@ -1,17 +1,33 @@
 //! The faults at which threads end.
 
-ghost use Rattle.std.specs.Prelude.{◌≡◌, ◌<◌, ◌++◌, ◌∷◌, [], ◌⊎◌, ℕ, Option, IfOk, IsTrue, OnOk, false, length, map};
-ghost use Rattle.std.specs.List.{All};
+ghost use Rattle.std.specs.Prelude.{◌≡◌, ◌<◌, ◌++◌, ◌∷◌, [], ◌⊎◌, ℕ, Option, IfOk, IsTrue, OnOk, Some, false, length, map, slice_get};
+ghost use Rattle.std.specs.{List.{All}, Option.{option_copied}};
 ghost use Rattle.cml_search.specs.Searches.{IsLonger, IsSearch, IsEdge, AreEdges};
 ghost use Rattle.cml_step.specs.Calls.{text_of};
-ghost use Rattle.cml_verify.specs.{Cores.{program_system}, Kept.{core_kept}, Faults.{AreFaults}, Falling.{FallsFrom, stood_at, IsFallNoted, EdgeIsNoted, IsScheduleBy, AreSchedulesBy, AreFollowed}};
+ghost use Rattle.cml_verify.specs.{Cores.{program_system}, Kept.{PlainKept, core_kept}, Faults.{AreFaults}, Falling.{FallsFrom, stood_at, IsFallNoted, EdgeIsNoted, IsScheduleBy, AreSchedulesBy, AreFollowed}};
 
 use crate::kept::Kept;
 use crate::schedules::Schedules;
 use cml_hub::Item;
 use cml_search::{Found, Gap, schedule_to};
+use cml_step::Machine;
 use cml_value::Tid;
 use std::alloc::{AllocError, Global};
+
+// The machine of the thread among those of all threads.
+fn machine_of(machines: &[Machine], thread: Tid) -> Option<&Machine>
+    ensures { option_copied result ≡ slice_get machines.now thread.0 }
+{
+    machines.get(thread.0 as usize)
+}
+
+// The machine of the thread in the state at this place.
+fn machine_at(kept: &[Kept], place: usize, thread: Tid) -> Option<&Machine>
+    requires { place < length kept.now }
+    ensures { option_copied result ≡ stood_at kept.now place thread }
+{
+    machine_of(kept[place].machines(), thread)
+}
 
 // Whether the thread stands the same in the states at both places.
 fn stands_the_same(kept: &[Kept], place: usize, other: usize, thread: Tid) -> bool
@@ -19,9 +35,9 @@ fn stands_the_same(kept: &[Kept], place: usize, other: usize, thread: Tid) -> bo
     requires other { other < length kept.now }
     ensures { IsTrue result → stood_at kept.now place thread ≡ stood_at kept.now other thread }
 {
-    let one = kept[place].machines().get(thread.0 as usize);
-    let second = kept[other].machines().get(thread.0 as usize);
-    match (one, second) {
+    let first = machine_at(kept, place, thread);
+    let second = machine_at(kept, other, thread);
+    match (first, second) {
         (Some(machine), Some(others)) => machine.same(others),
         _ => false,
     }
@@ -59,6 +75,14 @@ fn note(
     Ok(())
 }
 
+// How many threads have ended at a fault in the state at this place.
+fn faults_at(kept: &[Kept], place: usize) -> usize
+    requires { place < length kept.now }
+    ensures { (one : PlainKept) → slice_get kept.now place ≡ Some one → result ≡ one.faults }
+{
+    kept[place].faults()
+}
+
 // Tells the thread that ends at a fault by this edge, if one does.
 fn note_edge(
     system: &Schedules,
@@ -74,11 +98,16 @@ fn note_edge(
 {
     let (from, item, to) = edge;
     let kept = found.kept();
-    if kept[from].faults() >= kept[to].faults() {
+    let few = faults_at(kept, from);
+    let many = faults_at(kept, to);
+    if few >= many {
         return Ok(());
     }
     match item {
-        Item::Turn(thread) => note(kept, told, from, thread),
+        Item::Turn(thread) => {
+            note(kept, told, from, thread)?;
+            Ok(())
+        }
         Item::Meet(_) => Ok(()),
         Item::Exchange(_) => Ok(()),
         Item::Clock(_) => Ok(()),
