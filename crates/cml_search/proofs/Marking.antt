@@ -136,6 +136,10 @@ module _ {S I : Type 0} (y : System S I) (lawful : IsLawful y) (states : List S)
       let lt : k < length marks = slice_get_within marks k false bare in
       (omega (arith, lt, size), λ over are. cut_at y over states lawful edges marks origins places keeps graph closed are marked k bare))
 
+  pub first_cut : (o : Option ℕ) → ((over : S → Bool) → ArePlacesOf over states places → AllCanReach y over states marks) → IfSome o (λ k. (j : ℕ) → j < k → IsMarked marks j)
+      → IfSome o (λ k. (over : S → Bool) → ArePlacesOf over states places → (j : ℕ) (s : S) → j < k → slice_get states j ≡ Some s → CanReach y over s)
+  first_cut o can h = IfSome_then o h (λ k before over are j s lt at. can over are j s (before j lt) at)
+
   pub none_cut : (o : Option ℕ) → length marks ≡ length states → ((over : S → Bool) → ArePlacesOf over states places → AllCanReach y over states marks)
       → IfNone o ((k : ℕ) → k < length marks → IsMarked marks k) → IfNone o ((over : S → Bool) → ArePlacesOf over states places → (s : S) → IsReached y s → CanReach y over s)
   none_cut o size can h =

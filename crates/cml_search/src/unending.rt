@@ -94,6 +94,7 @@ fn marked<Y: System>(
 // The first place that is not marked, if there is one.
 fn first_unmarked(marks: &[bool]) -> Option<usize>
     ensures some { IfSome result (λ k. slice_get marks.now k ≡ Some false) }
+    ensures first { IfSome result (λ k. (j : ℕ) → j < k → IsMarked marks.now j) }
     ensures none { IfNone result ((k : ℕ) → k < length marks.now → IsMarked marks.now k) }
 {
     for k in 0..marks.len() {
@@ -121,6 +122,8 @@ pub fn cut_off<Y: System>(
     ensures some { IfOk result (λ place. IfSome place (λ k. (k < length found.now.kept.keys)
         × ((over : Y.State → Bool) → ArePlacesOf over (map (Y.state_of system.now) found.now.kept.keys) places.now
         → IfSome (slice_get (map (Y.state_of system.now) found.now.kept.keys) k) (λ s. CanReach (Y.rules system.now) over s → ⊥)))) }
+    ensures first { IfOk result (λ place. IfSome place (λ k. (over : Y.State → Bool) → ArePlacesOf over (map (Y.state_of system.now) found.now.kept.keys) places.now
+        → (j : ℕ) (s : Y.State) → j < k → slice_get (map (Y.state_of system.now) found.now.kept.keys) j ≡ Some s → CanReach (Y.rules system.now) over s)) }
     ensures none { IfOk result (λ place. IfNone place ((over : Y.State → Bool) → ArePlacesOf over (map (Y.state_of system.now) found.now.kept.keys) places.now
         → (s : Y.State) → IsReached (Y.rules system.now) s → CanReach (Y.rules system.now) over s)) }
 {

@@ -1,5 +1,6 @@
 -- Schedules that can not go on to an end.
-use Rattle.std.proofs.Common.{◌≡◌, ℕ, Bool, true, false, List, [], ◌∷◌, ◌++◌, length, map, Option, Some, None, slice_get, Contains, refl, ap, sym, subst, ◌∙◌}
+use Rattle.std.proofs.Common.{◌≡◌, ℕ, ◌<◌, ◌≤◌, Bool, true, false, List, [], ◌∷◌, ◌++◌, length, map, Option, Some, None, slice_get, Contains}
+use Rattle.std.proofs.Common.{◌⊎◌, inl, inr, refl, ap, sym, subst, ◌∙◌, true≢false}
 use Rattle.std.specs.Prelude.{option_map, IfSome, IfNone}
 use Rattle.std.specs.List.{All}
 use Rattle.std.proofs.lemmas.List.Elements.{All-weaker}
@@ -9,7 +10,9 @@ use Rattle.cml_schedule.specs.declared.item.Item.{Item}
 use Rattle.cml_step.specs.Terms.{Program}
 use Rattle.cml_hub.specs.Runs.{Run, stands, terminal}
 use Rattle.cml_search.specs.Systems.{System, run, IsReached, CanReach}
+use Rattle.cml_search.specs.Searches.{AreFewest}
 use Rattle.cml_search.specs.Marks.{ArePlacesOf}
+use Rattle.cml_search.proofs.Places.{either_way}
 use Rattle.cml_search.proofs.Runs.{begins, run-cons}
 use Rattle.cml_verify.specs.Cores.{Core, past, core_of, program_system}
 use Rattle.cml_verify.specs.Verdicts.{RunEnd, EndsIn, HasEnd}
@@ -67,6 +70,21 @@ module _ (p : Program) (s : Bool) where
             none (more, o.0, sym (run_on y y.start schedule more c h) ∙ o.1, o.2);
       }
 
+  -- no schedule that never ends has fewer items
+  pub fewest_unending : (schedule : List Item) (states : List Core) (place : ℕ) → AreFewest y false states place schedule
+      → ((j : ℕ) (c : Core) → j < place → slice_get states j ≡ Some c → CanReach y is_over c) → (others : List Item) → NeverEnds p others → length schedule ≤ length others
+  fewest_unending schedule states place fewest before others n =
+      elim (either_way (length schedule) (length others)) [
+        | inl few ↦ few
+        | inr less ↦
+            let a = past p others in
+            let c = core_of s a n.run in
+            let leads : run y y.start others ≡ Some c = runs_core p s others ∙ ap (option_map (core_of s a)) n.leads in
+            let q = fewest others c (leads, λ f. absurd (true≢false (sym f))) less in
+            let can = before q.0 c q.1 q.2 in
+            absurd (n.never can.0 (ends_there (others ++ can.0) can.1 (run_on y y.start others can.0 c leads ∙ can.2) can.3))
+      ]
+
   pub always_can : ((c : Core) → IsReached y c → CanReach y is_over c) → CanAlwaysEnd p
   always_can each schedule r h =
       let c = core_of s (past p schedule) r in
@@ -99,7 +117,8 @@ are_places p s keys places each among =
         among k (slice_get_within keys k b.0 b.1) (record { one = b.0; at = b.1; over = ap (λ (x : Core). terminal x.world) b.2 ∙ over })
 
 -- what is said of the schedule that never ends
-pub unending_is : {V : Type 0} (f : V → List Item) (p : Program) (W : Type 0) (most : Option ℕ) (told : Option V) → IfSome told (λ v. NeverEnds p (f v)) → IfNone most W
+pub unending_is : {V : Type 0} (f : V → List Item) (p : Program) (W : Type 0) (most : Option ℕ) (told : Option V)
+    → IfSome told (λ v. NeverEnds p (f v) × ((others : List Item) → NeverEnds p others → length (f v) ≤ length others)) → IfNone most W
     → (W → IfNone told (CanAlwaysEnd p)) → IsUnending p most (option_map f told)
 unending_is f p W most (Some v) h n w = h
 unending_is f p W (Some m) None h n w = tt

@@ -49,8 +49,8 @@ pub record NeverEnds (p : Program) (schedule : List Item) : Type 0 where
 abbrev pub CanAlwaysEnd : Program → Type 0
 CanAlwaysEnd p = (schedule : List Item) (run : Run) → stands p schedule ≡ Some run → (more : List Item) × HasEnd p false (schedule ++ more)
 
--- A schedule is told that never ends; or none is, and then, if all schedules were examined, each can go on so that it ends.
+-- A schedule is told that never ends, and no such one has fewer items; or none is told, and then, if all schedules were examined, each can go on so that it ends.
 abbrev pub IsUnending : Program → Option ℕ → Option (List Item) → Type 0
-IsUnending p most (Some schedule) = NeverEnds p schedule
+IsUnending p most (Some schedule) = NeverEnds p schedule × ((others : List Item) → NeverEnds p others → length schedule ≤ length others)
 IsUnending p (Some most) None = Unit {0}
 IsUnending p None None = CanAlwaysEnd p

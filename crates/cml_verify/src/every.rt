@@ -1,6 +1,6 @@
 //! Every schedule of a program.
 
-ghost use Rattle.std.specs.Prelude.{◌≡◌, ◌<◌, ◌+◌, [], ℕ, List, Some, IfNone, IfOk, IfSome, IsTrue, true, false, Contains, length, map, option_map, slice_get};
+ghost use Rattle.std.specs.Prelude.{◌≡◌, ◌<◌, ◌≤◌, ◌+◌, [], ℕ, List, Some, IfNone, IfOk, IfSome, IsTrue, true, false, Contains, length, map, option_map, slice_get};
 ghost use Rattle.std.specs.List.{All};
 ghost use Rattle.cml_schedule.specs.declared.item.Item.{Item};
 ghost use Rattle.cml_search.specs.{Systems.{run, IsReached}, Searches.{IsSearch, IsSought, AreEdges}, Marks.{ArePlacesOf}};
@@ -29,7 +29,7 @@ pub struct Verdict {
     /// Schedules by whose last items threads end at faults, among them a shortest one for each thread that does so and each place where it can
     /// stand before that.
     pub faults: Vec<Vec<Item>>,
-    /// A schedule that never ends, whatever comes behind it, if every schedule was examined and there is one.
+    /// A shortest schedule that never ends, whatever comes behind it, if every schedule was examined and there is one.
     pub unending: Option<Vec<Item>>,
     /// Nothing, if every schedule was examined. Else the search stopped at the first state beyond the bound, and the schedules of at most so many
     /// items were examined.
@@ -104,7 +104,8 @@ fn unending_of(
     requires whole { IsTrue found.now.whole → found.now.followed ≡ length found.now.kept.keys }
     requires within { All (λ k. k < length found.now.kept.keys) ends.now }
     requires are { ArePlacesOf (λ c. terminal c.world) (map (core_kept system.now.program) found.now.kept.keys) ends.now }
-    ensures some { IfOk result (λ told. IfSome told (λ schedule. NeverEnds (text_of system.now.program) schedule.items)) }
+    ensures some { IfOk result (λ told. IfSome told (λ schedule. NeverEnds (text_of system.now.program) schedule.items
+        × ((others : List Item) → NeverEnds (text_of system.now.program) others → length schedule.items ≤ length others))) }
     ensures none { IfOk result (λ told. IsTrue found.now.whole → IfNone told (CanAlwaysEnd (text_of system.now.program))) }
 {
     if !found.is_whole() {

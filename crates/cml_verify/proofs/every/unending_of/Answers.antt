@@ -6,7 +6,7 @@ use Rattle.cml_search.specs.Systems.{CanReach}
 use Rattle.cml_search.proofs.Runs.{at_some}
 use Rattle.cml_search.proofs.Places.{there}
 use Rattle.cml_verify.specs.{Cores.{Core, program_system}, Kept.{core_kept}}
-use Rattle.cml_verify.proofs.Unending.{never_ends, always_can}
+use Rattle.cml_verify.proofs.Unending.{never_ends, fewest_unending, always_can}
 use Rattle.cml_verify.proofs.every.unending_of.Goals as goal
 
 pub returns-in_ok-schedule-in-Some-clause-some : goal.returns-in_ok-schedule-in-Some-clause-some
@@ -18,8 +18,14 @@ returns-in_ok-schedule-in-Some-clause-some c =
     let k = c.in-Some.place in
     let cut = rw c.in-Some.is at c.in_ok-place.ensures.some in
     let t = there states k (omega (arith, length-map keys (core_kept p), cut.0)) in
-    never_ends (text_of p) s c.in_ok-schedule-in-Some.schedule.items t.0 (c.in_ok-schedule-in-Some.ensures.leads ∙ t.1)
-    (at_some (λ (x : Core). CanReach (program_system (text_of p) s) (λ (z : Core). terminal z.world) x → ⊥) (slice_get states k) t.0 t.1 (cut.1 (λ (z : Core). terminal z.world) c.requires.are))
+    let first = rw c.in-Some.is at c.in_ok-place.ensures.first in
+    let schedule = c.in_ok-schedule-in-Some.schedule.items in (
+      never_ends (text_of p) s schedule t.0 (c.in_ok-schedule-in-Some.ensures.leads ∙ t.1)
+          (at_some (λ (x : Core). CanReach (program_system (text_of p) s) (λ (z : Core). terminal z.world) x → ⊥) (slice_get states k) t.0 t.1
+          (cut.1 (λ (z : Core). terminal z.world) c.requires.are)),
+      fewest_unending (text_of p) s schedule states k (rw c.requires.any at c.in_ok-schedule-in-Some.ensures.fewest)
+          (λ j x lt at. first (λ (z : Core). terminal z.world) c.requires.are j x lt at),
+    )
 
 pub returns-in-None-clause-none : goal.returns-in-None-clause-none
 returns-in-None-clause-none c = λ whole.
