@@ -277,6 +277,10 @@ pub told_longer : (old new : List (ℕ × Tid)) (f : ℕ × Tid) → (new ≡ ol
 told_longer old new f (inl e) = ([], e ∙ sym (append-nil old))
 told_longer old new f (inr e) = (f ∷ [], e)
 
+-- threads of one number are one
+pub same_thread : (t u : Tid) → t.0 ≡ u.0 → t ≡ u
+same_thread t u e = let numbered : ℕ → Tid = λ n. record { 0 = n } in ap numbered e
+
 -- a thread that was told is among those that are
 pub is_noted : (keys : List PlainKept) (told new : List (ℕ × Tid)) (place : ℕ) (thread : Tid) → new ≡ told ++ (place, thread) ∷ [] → IsFallNoted keys new place thread
 is_noted keys told new place thread e = (place, subst (λ l. Contains l (place, thread)) (sym e) (Contains-push told (place, thread)), omega arith, refl)

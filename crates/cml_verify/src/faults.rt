@@ -1,6 +1,6 @@
 //! The faults at which threads end.
 
-ghost use Rattle.std.specs.Prelude.{◌≡◌, ◌<◌, ◌++◌, ◌∷◌, [], ◌⊎◌, ℕ, Option, IfOk, IsTrue, OnOk, Some, false, length, map, slice_get};
+ghost use Rattle.std.specs.Prelude.{◌≡◌, ◌<◌, ◌≤◌, ◌++◌, ◌∷◌, [], ◌⊎◌, ℕ, Option, IfOk, IsTrue, OnOk, Some, false, length, map, slice_get};
 ghost use Rattle.std.specs.{List.{All}, Option.{option_copied}};
 ghost use Rattle.cml_search.specs.Searches.{IsLonger, IsSearch, IsEdge, AreEdges};
 ghost use Rattle.cml_step.specs.Calls.{text_of};
@@ -29,6 +29,16 @@ fn machine_at(kept: &[Kept], place: usize, thread: Tid) -> Option<&Machine>
     machine_of(kept[place].machines(), thread)
 }
 
+// Whether both are there, and the same.
+fn are_the_same(first: Option<&Machine>, second: Option<&Machine>) -> bool
+    ensures { IsTrue result → option_copied first.entry ≡ option_copied second.entry }
+{
+    match (first, second) {
+        (Some(machine), Some(other)) => machine.same(other),
+        _ => false,
+    }
+}
+
 // Whether the thread stands the same in the states at both places.
 fn stands_the_same(kept: &[Kept], place: usize, other: usize, thread: Tid) -> bool
     requires place { place < length kept.now }
@@ -37,20 +47,31 @@ fn stands_the_same(kept: &[Kept], place: usize, other: usize, thread: Tid) -> bo
 {
     let first = machine_at(kept, place, thread);
     let second = machine_at(kept, other, thread);
-    match (first, second) {
-        (Some(machine), Some(others)) => machine.same(others),
-        _ => false,
+    are_the_same(first, second)
+}
+
+// Whether it is the same thread, and stands the same at the one place, which is no later.
+fn is_like(kept: &[Kept], before: usize, other: Tid, place: usize, thread: Tid) -> bool
+    requires { place < length kept.now }
+    ensures { IsTrue result → (other ≡ thread) × (before ≤ place) × (stood_at kept.now before thread ≡ stood_at kept.now place thread) }
+{
+    if other.0 != thread.0 {
+        return false;
     }
+    if before > place {
+        return false;
+    }
+    stands_the_same(kept, before, place, thread)
 }
 
 // Whether the thread was told with this place, or with one before it at which it stands the same.
 fn is_told(kept: &[Kept], told: &[(usize, Tid)], place: usize, thread: Tid) -> bool
-    requires place { place < length kept.now }
+    requires { place < length kept.now }
     ensures { IsTrue result → IsFallNoted kept.now told.now place thread }
 {
     for one in told {
         let (before, other) = *one;
-        if other == thread && before <= place && stands_the_same(kept, before, place, thread) {
+        if is_like(kept, before, other, place, thread) {
             return true;
         }
     }
@@ -64,7 +85,7 @@ fn note(
     place: usize,
     thread: Tid,
 ) -> Result<(), AllocError>
-    requires place { place < length kept.now }
+    requires { place < length kept.now }
     ensures more { OnOk result ((told.new.items ≡ told.old.items) ⊎ (told.new.items ≡ told.old.items ++ (place, thread) ∷ [])) }
     ensures noted { OnOk result (IsFallNoted kept.now told.new.items place thread) }
 {
@@ -184,5 +205,6 @@ pub(crate) fn all_faults(
         → AreFaults (text_of system.now.program) most (map (λ schedule. schedule.items) told.items)) }
 {
     let told = places_of_faults(alloc, system, found)?;
-    schedules_by(alloc, system, found, told.as_slice())
+    let schedules = schedules_by(alloc, system, found, told.as_slice())?;
+    Ok(schedules)
 }

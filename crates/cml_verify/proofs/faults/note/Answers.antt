@@ -5,6 +5,9 @@ use Rattle.cml_verify.proofs.faults.note.Goals as goal
 pub returns-then-is_told-clause-more : goal.returns-then-is_told-clause-more
 returns-then-is_told-clause-more c = inl refl
 
+pub returns-then-is_told-clause-noted : goal.returns-then-is_told-clause-noted
+returns-then-is_told-clause-noted c = (rw c.as_slice.ensures.value at c.is_told.ensures) c.if-is_told.true
+
 pub returns-clause-more : goal.returns-clause-more
 returns-clause-more c = inr c.in_ok-push.ensures.items
 

@@ -1,4 +1,4 @@
-use Rattle.std.proofs.Common.{◌≡◌, [], Some, length, map, take, slice_get, refl, sym, subst, arith}
+use Rattle.std.proofs.Common.{◌≡◌, [], Some, length, map, slice_get, ap, sym, subst, arith}
 use Rattle.std.specs.List.{All}
 use Rattle.std.proofs.lemmas.List.{take_all}
 use Rattle.std.proofs.lemmas.List.Elements.{All-nil}
@@ -26,7 +26,7 @@ note_edge-requires-clause-edge c =
     let i = c.loop-edge.edge-index in
     let e = c.item-edge.result in
     all_at (IsEdge (program_system (text_of p) c.args.system.now.with_output) (map (core_kept p) c.args.found.now.kept.keys)) edges i e c.requires
-    (read_through c.edges.result.now edges i e c.edges.ensures (omega arith) c.item-edge.is)
+    (read_through c.edges.result.now edges i e c.edges.ensures (omega (arith, ap length c.edges.ensures)) c.item-edge.is)
 
 pub loop-edge-preserved : goal.loop-edge-preserved
 loop-edge-preserved c =
@@ -39,7 +39,7 @@ loop-edge-preserved c =
     let old = c.loop-edge.told.items in
     let new = c.note_edge.new.told.items in
     let after = c.in_ok-note_edge.ensures in
-    let at : slice_get edges i ≡ Some e = read_through c.edges.result.now edges i e c.edges.ensures (omega arith) c.item-edge.is in
+    let at : slice_get edges i ≡ Some e = read_through c.edges.result.now edges i e c.edges.ensures (omega (arith, ap length c.edges.ensures)) c.item-edge.is in
     record {
       each = after.each;
       noted = noted_more p s keys edges i e old new at after.longer c.loop-edge.invariant.noted after.noted;
@@ -49,4 +49,4 @@ pub returns-clause-noted : goal.returns-clause-noted
 returns-clause-noted c =
     let p = c.args.system.now.program in
     let edges = c.args.found.now.edges.items in
-    subst (All (EdgeIsNoted p c.args.system.now.with_output c.args.found.now.kept.keys c.loop-edge.told.items)) (take_all c.loop-edge.edge-index edges (omega arith)) c.loop-edge.invariant.noted
+    subst (All (EdgeIsNoted p c.args.system.now.with_output c.args.found.now.kept.keys c.loop-edge.told.items)) (take_all c.loop-edge.edge-index edges (omega (arith, ap length c.edges.ensures))) c.loop-edge.invariant.noted
