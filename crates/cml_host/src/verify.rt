@@ -19,7 +19,8 @@ use cml_arguments::VerifyOptions;
 use cml_check::Prog;
 use cml_ending::push_many;
 use cml_explore::{
-    Classes, EndsTold, Explored, FaultTold, gather_ends, tell_ends, tell_faults, write_ends, write_faulted,
+    Classes, EndsTold, Explored, FaultTold, gather_ends, tell_ends, tell_faults, write_ends,
+    write_faulted,
 };
 use cml_hub::Item;
 use cml_text::Sexpr;
@@ -212,7 +213,14 @@ fn examine(
     let made = gather_ends(alloc, &script.program, servers, verdict.ends.as_slice())?;
     let told = ends_told(alloc, script, servers, &made)?;
     let faults = faults_told(alloc, script, &verdict)?;
-    let said = say_found(alloc, script.forms.as_slice(), options, &verdict, &told, faults.as_slice())?;
+    let said = say_found(
+        alloc,
+        script.forms.as_slice(),
+        options,
+        &verdict,
+        &told,
+        faults.as_slice(),
+    )?;
     Ok(Examined {
         reach: verdict.reach,
         clean: is_clean(options.endless, made.is_well(), &verdict),
@@ -247,7 +255,13 @@ fn faults_told(
 {
     let text = script.text.as_slice();
     let forms = script.forms.as_slice();
-    tell_faults(alloc, text, forms, &script.program, verdict.faults.as_slice())
+    tell_faults(
+        alloc,
+        text,
+        forms,
+        &script.program,
+        verdict.faults.as_slice(),
+    )
 }
 
 // The words for what was found.
