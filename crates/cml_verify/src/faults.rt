@@ -146,7 +146,8 @@ fn places_of_faults(
     ensures noted { IfOk result (λ told. All (EdgeIsNoted system.now.program system.now.with_output found.now.kept.keys told.items) found.now.edges.items) }
 {
     let mut told = Vec::new(alloc);
-    for edge in found.edges() {
+    let edges = found.edges();
+    for edge in edges {
         note_edge(system, found, &mut told, *edge)?;
     }
     Ok(told)

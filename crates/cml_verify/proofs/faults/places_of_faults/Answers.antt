@@ -24,9 +24,9 @@ note_edge-requires-clause-edge c =
     let p = c.args.system.now.program in
     let edges = c.args.found.now.edges.items in
     let i = c.loop-edge.edge-index in
-    let e = c.item-edge.result in
+    let e = c.edge-item.result in
     all_at (IsEdge (program_system (text_of p) c.args.system.now.with_output) (map (core_kept p) c.args.found.now.kept.keys)) edges i e c.requires
-    (read_through c.edges.result.now edges i e c.edges.ensures (omega (arith, ap length c.edges.ensures)) c.item-edge.is)
+    (read_through c.edges-edges.result.now edges i e c.edges-edges.ensures (omega (arith, ap length c.edges-edges.ensures)) c.edge-item.is)
 
 pub loop-edge-preserved : goal.loop-edge-preserved
 loop-edge-preserved c =
@@ -35,11 +35,11 @@ loop-edge-preserved c =
     let keys = c.args.found.now.kept.keys in
     let edges = c.args.found.now.edges.items in
     let i = c.loop-edge.edge-index in
-    let e = c.item-edge.result in
+    let e = c.edge-item.result in
     let old = c.loop-edge.told.items in
     let new = c.note_edge.new.told.items in
     let after = c.in_ok-note_edge.ensures in
-    let at : slice_get edges i ≡ Some e = read_through c.edges.result.now edges i e c.edges.ensures (omega (arith, ap length c.edges.ensures)) c.item-edge.is in
+    let at : slice_get edges i ≡ Some e = read_through c.edges-edges.result.now edges i e c.edges-edges.ensures (omega (arith, ap length c.edges-edges.ensures)) c.edge-item.is in
     record {
       each = after.each;
       noted = noted_more p s keys edges i e old new at after.longer c.loop-edge.invariant.noted after.noted;
@@ -49,4 +49,4 @@ pub returns-clause-noted : goal.returns-clause-noted
 returns-clause-noted c =
     let p = c.args.system.now.program in
     let edges = c.args.found.now.edges.items in
-    subst (All (EdgeIsNoted p c.args.system.now.with_output c.args.found.now.kept.keys c.loop-edge.told.items)) (take_all c.loop-edge.edge-index edges (omega (arith, ap length c.edges.ensures))) c.loop-edge.invariant.noted
+    subst (All (EdgeIsNoted p c.args.system.now.with_output c.args.found.now.kept.keys c.loop-edge.told.items)) (take_all c.loop-edge.edge-index edges (omega (arith, ap length c.edges-edges.ensures))) c.loop-edge.invariant.noted

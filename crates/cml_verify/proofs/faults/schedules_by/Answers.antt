@@ -12,8 +12,8 @@ schedule_by-requires-clause-within c =
     let keys = c.args.found.now.kept.keys in
     let told = c.args.told.now in
     let i = c.loop-one.one-index in
-    let f = c.item-one.result in
-    let at : slice_get told i ≡ Some f = slice_get_read told (length told) i f refl (omega arith) c.item-one.is in
+    let f = c.one-item.result in
+    let at : slice_get told i ≡ Some f = slice_get_read told (length told) i f refl (omega arith) c.one-item.is in
     let a = all_at (FallsFrom c.args.system.now.program c.args.system.now.with_output keys) told i f c.requires.each at in
     slice_get_within keys f.0 a.one a.at
 
@@ -28,8 +28,8 @@ loop-one-preserved c =
     let p = c.args.system.now.program in
     let told = c.args.told.now in
     let i = c.loop-one.one-index in
-    let f = c.item-one.result in
+    let f = c.one-item.result in
     by_more (program_system (text_of p) c.args.system.now.with_output) (map (core_kept p) c.args.found.now.kept.keys) told i f (map (λ schedule. schedule.items) c.loop-one.schedules.items)
     (map (λ schedule. schedule.items) c.push.new.self.items) c.in_ok-schedule.schedule.items c.loop-one.invariant
     (ap (map (λ schedule. schedule.items)) c.in_ok-push.ensures.items ∙ map-append (λ schedule. schedule.items) c.loop-one.schedules.items (c.in_ok-schedule.schedule ∷ []))
-    (slice_get_read told (length told) i f refl (omega arith) c.item-one.is) c.in_ok-schedule.ensures
+    (slice_get_read told (length told) i f refl (omega arith) c.one-item.is) c.in_ok-schedule.ensures
