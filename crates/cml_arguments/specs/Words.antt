@@ -140,7 +140,8 @@ explore_command = command_of (codes "explore")
 abbrev pub verify_command : Shape
 verify_command =
     command_of (codes "verify")
-    (file_rule (codes "FILE") ∷ states_rule (codes "states") ∷ flag_rule (codes "outcomes") ∷ option_rule (codes "save") ∷ list_rule (codes "servers") ∷ [])
+    (file_rule (codes "FILE") ∷ states_rule (codes "states") ∷ flag_rule (codes "outcomes") ∷ flag_rule (codes "endless") ∷ option_rule (codes "save")
+    ∷ list_rule (codes "servers") ∷ [])
 
 abbrev pub shrink_command : Shape
 shrink_command = command_of (codes "shrink") (file_rule (codes "FILE") ∷ file_rule (codes "SCHEDULE") ∷ count_rule (codes "tries") ∷ [])
@@ -287,6 +288,7 @@ pub record IsVerify (given : List Row) (options : VerifyOptions) : Type 0 where
   pub script : first_of (codes "FILE") given ≡ Some options.script.now
   pub states : options.states ≡ unwrap_or (option_number (codes "states") given) 20000
   pub outcomes : options.outcomes ≡ is_flagged (codes "outcomes") given
+  pub endless : options.endless ≡ is_flagged (codes "endless") given
   pub save : option_map (λ start. start.now) options.save ≡ first_of (codes "save") given
   pub servers : map (λ name. name.now) options.servers.items ≡ option_texts (codes "servers") given
   pub counts : IsStates options.states

@@ -216,6 +216,8 @@ pub struct VerifyOptions<'a> {
     pub states: u64,
     /// Whether what every schedule gives is told, in a form that a program reads, in place of how they end.
     pub outcomes: bool,
+    /// Whether it is no mistake that some schedule can't go on to an end.
+    pub endless: bool,
     /// What the name of each file begins with that gets a schedule; without it none is saved.
     pub save: Option<&'a str>,
     /// The functions of servers: threads that began with one of them may wait.

@@ -156,6 +156,7 @@ fn verify_options<'a>(alloc: Global, matches: &ArgMatches<'a>) -> Given<VerifyOp
         script: given(matches, "FILE"),
         states: number(matches, "states").unwrap_or(DEFAULT_STATES),
         outcomes: flag(matches, "outcomes"),
+        endless: flag(matches, "endless"),
         save: matches.get_str("save"),
         servers,
     })

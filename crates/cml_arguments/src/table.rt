@@ -221,7 +221,9 @@ fn verify<'a>(alloc: Global) -> Made<'a>
         "Writes each outcome once, with what is printed and how each thread ends, as a line of JSON",
     );
     let command = with_arg(on_file(alloc, "verify", about), states);
+    let endless = flag_of(alloc, "endless").help("It is no mistake that a schedule never ends");
     let command = with_arg(command, outcomes);
+    let command = with_arg(command, endless);
     with_arg(with_arg(command, save), servers(alloc))
 }
 

@@ -12,3 +12,4 @@ pub mod JudgeLemmas
 pub mod ToldLemmas
 pub mod EndLemmas
 pub mod OutcomeLemmas
+pub mod FaultLemmas

@@ -11,3 +11,4 @@ pub mod Outcomes
 pub mod SightViews
 pub mod ClassViews
 pub mod Laws
+pub mod FaultsTold

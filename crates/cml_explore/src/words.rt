@@ -1,6 +1,7 @@
 //! What is told of many runs, in words.
 
 use crate::ends::{EndTold, EndsTold};
+use crate::fault_told::FaultTold;
 use crate::orders::Orders;
 use crate::told::{ClassTold, RunTold, RunsTold, ThreadLeft, ThreadState};
 use cml_ending::{Stands, push_awaited, push_many, push_named, push_number};
@@ -436,6 +437,62 @@ pub fn write_ends(
         match classes.get(*number) {
             Some(end) => push_told(alloc, out, forms, width, end)?,
             None => {}
+        }
+    }
+    Ok(())
+}
+
+// The line of the thread whose turn the last item is.
+fn fault_line(alloc: Global, forms: &[Sexpr], fault: &FaultTold) -> Result<Vec<u8>, AllocError> {
+    let mut line = Vec::new(alloc);
+    for left in &fault.run.threads {
+        if fault.thread == Some(left.thread.thread) {
+            push_thread(alloc, &mut line, forms, left)?;
+        }
+    }
+    Ok(line)
+}
+
+// Whether one of these lines is this one.
+fn is_among(lines: &[Vec<u8>], line: &[u8]) -> bool {
+    for one in lines {
+        if one.as_slice() == line {
+            return true;
+        }
+    }
+    false
+}
+
+// Appends how many items a schedule has, and the line of the thread that ends at a fault by the last of them.
+fn push_fault(
+    alloc: Global,
+    out: &mut Vec<u8>,
+    items: usize,
+    line: &[u8],
+) -> Result<(), AllocError> {
+    out.extend_from_slice(b"fault   shortest: ")?;
+    push_many(alloc, out, " item", " items", items as u64)?;
+    out.extend_from_slice(b"\n")?;
+    out.extend_from_slice(line)
+}
+
+/// Appends what is told of schedules by whose last items threads end at faults, of the script that has these forms: of each the thread, at which
+/// statement it does so, and why; where two say the same, the first alone.
+///
+/// # Errors
+/// Out of memory.
+pub fn write_faulted(
+    alloc: Global,
+    out: &mut Vec<u8>,
+    forms: &[Sexpr],
+    told: &[FaultTold],
+) -> Result<(), AllocError> {
+    let mut lines = Vec::new(alloc);
+    for fault in told {
+        let line = fault_line(alloc, forms, fault)?;
+        if !is_among(lines.as_slice(), line.as_slice()) {
+            push_fault(alloc, out, fault.items, line.as_slice())?;
+            lines.push(line)?;
         }
     }
     Ok(())

@@ -1,14 +1,18 @@
 -- The command `verify`: what is told of every schedule of a script, and what is saved of them.
-use Rattle.std.specs.Prelude.{◌≡◌, ◌⊎◌, ℕ, Bool, MatchBool, true, false, if◌then◌else◌, List, [], map, codes, Option, None, Some, is_some, option_map}
+use Rattle.std.specs.Prelude.{◌≡◌, ◌⊎◌, ℕ, Bool, MatchBool, true, false, not, ◌&&◌, ◌||◌, is_empty, if◌then◌else◌, List, [], map, codes, Option, None, Some, is_some, option_map}
 use Rattle.cml_arguments.specs.declared.VerifyOptions.{VerifyOptions}
 use Rattle.cml_check.specs.Syntax.{Name, PlainItem}
 use Rattle.cml_explore.specs.Classes.{PlainClass}
 use Rattle.cml_explore.specs.Ends.{AreEndsTold, IsGathered}
 use Rattle.cml_explore.specs.Explored.{PlainExplored}
+use Rattle.cml_explore.specs.FaultsTold.{AreFaultsTold}
 use Rattle.cml_explore.specs.declared.ends.EndsTold.{EndsTold}
+use Rattle.cml_explore.specs.declared.fault_told.FaultTold.{FaultTold}
 use Rattle.cml_phrase.specs.Spots.{all_places}
 use Rattle.cml_schedule.specs.declared.item.Item.{Item}
 use Rattle.cml_text.specs.Lines.{line}
+use Rattle.cml_step.specs.Calls.{text_of}
+use Rattle.cml_verify.specs.Faults.{AreFaults, IsUnending}
 use Rattle.cml_verify.specs.Verdicts.{IsVerdict}
 use Rattle.cml_verify.specs.declared.every.Verdict.{Verdict}
 use Rattle.cml_host.specs.Exploring.{files_from}
@@ -25,20 +29,41 @@ use Rattle.cml_host.specs.Stores.{Content}
 abbrev pub ends_of : Verdict → List (List Item)
 ends_of v = map (λ schedule. schedule.items) v.ends.items
 
+-- the schedules by whose last items threads end at faults that it found
+abbrev pub faults_of : Verdict → List (List Item)
+faults_of v = map (λ schedule. schedule.items) v.faults.items
+
+-- the schedule without end that it found, if it found one
+abbrev pub unending_of : Verdict → Option (List Item)
+unending_of v = option_map (λ schedule. schedule.items) v.unending
+
+-- A search of every schedule, up to so many states, found this.
+pub record IsSearched (p : List (PlainItem ℕ)) (with_output : Bool) (bound : ℕ) (v : Verdict) : Type 0 where
+  pub ends : IsVerdict p with_output bound v.reach (ends_of v) v.states
+  pub faults : AreFaults (text_of p) v.reach (faults_of v)
+  pub unending : IsUnending (text_of p) v.reach (unending_of v)
+
+-- Nothing bad was found: all ends are good, no thread ends at a fault, and each schedule can go on to an end, where that counts.
+abbrev pub is_clean : Bool → Bool → Verdict → Bool
+is_clean endless well v = well && (is_empty v.faults.items && (endless || not (is_some v.unending)))
+
 -- Every schedule of the script was examined, up to so many states: the runs are those to the ends of a verdict, in classes of those that ended
--- alike, and that is told of them.
-pub record IsExamined (s : PlainScript) (bound : ℕ) (servers : List ℕ) (reach : Option ℕ) (made : PlainExplored) (told : EndsTold) : Type 0 where
+-- alike, and that is told of them, and of its faults.
+pub record IsExamined (s : PlainScript) (options : VerifyOptions) (servers : List ℕ) (reach : Option ℕ) (clean : Bool) (made : PlainExplored) (told : EndsTold) : Type 0 where
   pub verdict : Verdict
-  pub found : IsVerdict s.program false bound verdict.reach (ends_of verdict) verdict.states
+  pub found : IsSearched s.program false options.states verdict
   pub reach_is : reach ≡ verdict.reach
   pub gathered : IsGathered s.program servers (ends_of verdict) made
   pub told_are : AreEndsTold (all_places s.text s.forms) s.program servers made.classes told
+  pub faults : List FaultTold
+  pub faults_are : AreFaultsTold (all_places s.text s.forms) s.program (faults_of verdict) faults
+  pub clean_is : clean ≡ is_clean options.endless made.well verdict
 
 -- ---- how it is told, and what is saved
 
--- the status: an end is a bad one; or all that were found are good, and the bound was reached, or not
+-- the status: something bad was found; or nothing was, and the bound was reached, or not
 abbrev pub verdict_status : Option ℕ → Bool → ℕ
-verdict_status reach well = if well then (if is_some reach then 4 else 0) else 6
+verdict_status reach clean = if clean then (if is_some reach then 4 else 0) else 6
 
 -- the files that the arguments ask for: the shortest schedule of each class, in the order in which they are told
 abbrev pub end_files : Option Name → List (PlainItem ℕ) → List PlainClass → List ℕ → List File
@@ -53,16 +78,17 @@ ends_start options = option_map (λ start. start.now) options.save
 abbrev pub verified_servers : VerifyOptions → List Name
 verified_servers options = map (λ name. name.now) options.servers.items
 
--- Some text tells what was found; the files that are asked for are saved; and the status says whether all ends are good, and all were found.
-abbrev pub VerdictTold : VerifyOptions → List (PlainItem ℕ) → Option ℕ → PlainExplored → EndsTold → PlainReply → Type 0
-VerdictTold options p reach made told reply =
-    (reply.files ≡ end_files (ends_start options) p made.classes told.order.items) × (reply.words ≡ []) × (reply.status ≡ verdict_status reach made.well)
+-- Some text tells what was found; the files that are asked for are saved; and the status says whether something bad was found, and whether all was
+-- examined.
+abbrev pub VerdictTold : VerifyOptions → List (PlainItem ℕ) → Option ℕ → Bool → PlainExplored → EndsTold → PlainReply → Type 0
+VerdictTold options p reach clean made told reply =
+    (reply.files ≡ end_files (ends_start options) p made.classes told.order.items) × (reply.words ≡ []) × (reply.status ≡ verdict_status reach clean)
 
 -- the script was examined, and it is told how its schedules end
 abbrev pub TellsEnds : VerifyOptions → PlainScript → List ℕ → PlainReply → Type 0
 TellsEnds options s servers reply =
-    (reach : Option ℕ) × (made : PlainExplored) × (told : EndsTold) × IsExamined s options.states servers reach made told
-    × VerdictTold options s.program reach made told reply
+    (reach : Option ℕ) × (clean : Bool) × (made : PlainExplored) × (told : EndsTold) × IsExamined s options servers reach clean made told
+    × VerdictTold options s.program reach clean made told reply
 
 -- these outcomes, and what the search came to; a file for each, where that is asked for; and the status
 abbrev pub outcomes_reply : Option Name → List (PlainItem ℕ) → ℕ → Option ℕ → List PlainOutcomeTold → ℕ → PlainReply
@@ -74,15 +100,16 @@ outcomes_reply start p states reach told status = record {
 }
 
 -- Every schedule of the script was examined, up to so many states, with what it prints. The outcomes of those of a verdict are told, and the
--- status says whether all ends are good, and all were found.
+-- status says whether something bad was found, and whether all was examined.
 pub record TellsOutcomes (options : VerifyOptions) (s : PlainScript) (servers : List ℕ) (reply : PlainReply) : Type 0 where
   pub verdict : Verdict
-  pub found : IsVerdict s.program true options.states verdict.reach (ends_of verdict) verdict.states
+  pub found : IsSearched s.program true options.states verdict
   pub made : PlainExplored
   pub gathered : IsGathered s.program servers (ends_of verdict) made
   pub told : List PlainOutcomeTold
   pub outcomes : AreOutcomes s.program (ends_of verdict) told
-  pub reply_is : reply ≡ outcomes_reply (ends_start options) s.program verdict.states verdict.reach told (verdict_status verdict.reach made.well)
+  pub reply_is : reply ≡ outcomes_reply (ends_start options) s.program verdict.states verdict.reach told
+      (verdict_status verdict.reach (is_clean options.endless made.well verdict))
 
 -- what was asked for: how the schedules end, or what each gives
 abbrev pub ProgramVerified : VerifyOptions → PlainScript → List ℕ → PlainReply → Type 0

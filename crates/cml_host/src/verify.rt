@@ -1,13 +1,12 @@
 //! The command `verify`: every schedule of a script is examined, and it is told how they end.
 
 ghost use Rattle.std.specs.{Prelude.{◌≡◌, ◌<◌, [], IfErr, IfOk, Some, length, map, option_map}, List.{All}};
-ghost use Rattle.cml_explore.specs.Ends.{AreEndsTold};
+ghost use Rattle.cml_explore.specs.{Ends.{AreEndsTold}, FaultsTold.{AreFaultsTold}};
 ghost use Rattle.cml_host.specs.{Refused.{RefusesAs}, Replies.{plain_file, plain_of, plain_reply}, Scripts.{plain_script}, Stores.{IsUnchanged}};
 ghost use Rattle.cml_host.specs.Outcomes.{PlainOutcomeTold, plain_outcome_told};
-ghost use Rattle.cml_host.specs.Verified.{IsAstray, IsExamined, ProgramVerified, ScriptVerified, TellsOutcomes, VerdictTold, VerifyOutcome, end_files, ends_of, ends_start};
+ghost use Rattle.cml_host.specs.Verified.{IsAstray, IsExamined, IsSearched, ProgramVerified, ScriptVerified, TellsOutcomes, VerdictTold, VerifyOutcome, end_files, ends_start, faults_of};
 ghost use Rattle.cml_host.specs.Verified as spec;
 ghost use Rattle.cml_phrase.specs.Spots.{all_places};
-ghost use Rattle.cml_verify.specs.Verdicts.{IsVerdict};
 
 use crate::explore::class_files;
 use crate::outcomes::{OutcomeTold, gather_outcomes, outcome_files, outcomes_text};
@@ -19,12 +18,16 @@ use crate::store::Store;
 use cml_arguments::VerifyOptions;
 use cml_check::Prog;
 use cml_ending::push_many;
-use cml_explore::{Classes, EndsTold, Explored, gather_ends, tell_ends, write_ends};
+use cml_explore::{
+    Classes, EndsTold, Explored, FaultTold, gather_ends, tell_ends, tell_faults, write_ends,
+    write_faulted,
+};
+use cml_hub::Item;
 use cml_text::Sexpr;
 use cml_verify::{Gap, Verdict, outcomes, verify};
 use std::alloc::{AllocError, Global};
 
-// The status where an end is a bad one.
+// The status where something bad was found.
 const UNWELL: u8 = 6;
 
 // The status where the bound was reached.
@@ -38,6 +41,8 @@ const BUDGET: u64 = 1_000_000;
 struct Examined {
     // Up to how many items the schedules were examined, if not all were.
     reach: Option<usize>,
+    // Whether nothing bad was found.
+    clean: bool,
     // The runs to the ends, in classes of those that ended alike.
     made: Explored,
     // What is told of the classes.
@@ -105,7 +110,7 @@ fn verify_program(
 // A search of every schedule of the program, which looks at what was printed, or not.
 fn search(alloc: Global, program: &Prog, bound: usize, with_output: bool) -> Result<Verdict, Gap>
     requires { 0 < bound }
-    ensures { IfOk result (λ v. IsVerdict program.now with_output bound v.reach (ends_of v) v.states) }
+    ensures { IfOk result (IsSearched program.now with_output bound) }
 {
     if with_output {
         outcomes(alloc, program, bound)
@@ -132,7 +137,7 @@ fn verdict_on(
     with_output: bool,
 ) -> Result<Verdict, Refusal>
     requires bound { 0 < bound }
-    ensures found { IfOk result (λ v. IsVerdict program.now with_output bound v.reach (ends_of v) v.states) }
+    ensures found { IfOk result (IsSearched program.now with_output bound) }
     ensures err { IfErr result (RefusesAs IsAstray) }
 {
     match search(alloc, program, bound as usize, with_output) {
@@ -157,7 +162,8 @@ fn tell_outcomes(
     let schedules = verdict.ends.as_slice();
     let made = gather_ends(alloc, program, servers, schedules)?;
     let told = gather_outcomes(alloc, program, schedules)?;
-    let status = verdict_status(verdict.reach, made.is_well());
+    let clean = is_clean(options.endless, made.is_well(), &verdict);
+    let status = verdict_status(verdict.reach, clean);
     drop(made);
     Ok(reply_outcomes(
         alloc,
@@ -199,16 +205,25 @@ fn examine(
     servers: &[u32],
 ) -> Result<Examined, Refusal>
     requires bound { 0 < options.now.states }
-    ensures found { IfOk result (λ found. IsExamined (plain_script script.now) options.now.states servers.now found.reach found.made found.told) }
+    ensures found { IfOk result (λ found. IsExamined (plain_script script.now) options.now servers.now found.reach found.clean found.made found.told) }
     ensures below { IfOk result (λ found. All (λ n. n < length found.made.classes) found.told.order.items) }
     ensures err { IfErr result (RefusesAs IsAstray) }
 {
     let verdict = verdict_on(alloc, &script.program, options.states, false)?;
     let made = gather_ends(alloc, &script.program, servers, verdict.ends.as_slice())?;
     let told = ends_told(alloc, script, servers, &made)?;
-    let said = say_found(alloc, script.forms.as_slice(), options, &verdict, &told)?;
+    let faults = faults_told(alloc, script, &verdict)?;
+    let said = say_found(
+        alloc,
+        script.forms.as_slice(),
+        options,
+        &verdict,
+        &told,
+        faults.as_slice(),
+    )?;
     Ok(Examined {
         reach: verdict.reach,
+        clean: is_clean(options.endless, made.is_well(), &verdict),
         made,
         told,
         said,
@@ -230,6 +245,25 @@ fn ends_told(
     tell_ends(alloc, text, forms, &script.program, servers, made.classes())
 }
 
+// What is told of the faults.
+fn faults_told(
+    alloc: Global,
+    script: &Script,
+    verdict: &Verdict,
+) -> Result<Vec<FaultTold>, AllocError>
+    ensures { IfOk result (λ told. AreFaultsTold (all_places script.now.text.items script.now.forms.items) script.now.program (faults_of verdict.now) told.items) }
+{
+    let text = script.text.as_slice();
+    let forms = script.forms.as_slice();
+    tell_faults(
+        alloc,
+        text,
+        forms,
+        &script.program,
+        verdict.faults.as_slice(),
+    )
+}
+
 // The words for what was found.
 fn say_found(
     alloc: Global,
@@ -237,6 +271,7 @@ fn say_found(
     options: &VerifyOptions<'_>,
     verdict: &Verdict,
     told: &EndsTold,
+    faults: &[FaultTold],
 ) -> Result<Vec<u8>, AllocError> {
     let mut said = Vec::new(alloc);
     match verdict.reach {
@@ -244,7 +279,25 @@ fn say_found(
         Some(most) => push_bound(alloc, &mut said, options.states, most)?,
     }
     write_ends(alloc, &mut said, forms, told)?;
+    write_faulted(alloc, &mut said, forms, faults)?;
+    push_unending(alloc, &mut said, verdict.unending.as_ref())?;
     Ok(said)
+}
+
+// Appends how many items the schedule has that can't go on to an end, if there is one.
+fn push_unending(
+    alloc: Global,
+    said: &mut Vec<u8>,
+    unending: Option<&Vec<Item>>,
+) -> Result<(), AllocError> {
+    match unending {
+        Some(schedule) => {
+            said.extend_from_slice(b"no end   after ")?;
+            push_many(alloc, said, " item", " items", schedule.len() as u64)?;
+            said.extend_from_slice(b"\n")
+        }
+        None => Ok(()),
+    }
 }
 
 // Appends that every schedule was examined, and how many states there are.
@@ -287,11 +340,12 @@ fn tell_found(
     found: Examined,
 ) -> Result<Reply, AllocError>
     requires { All (λ n. n < length found.made.classes) found.told.order.items }
-    ensures { IfOk result (λ reply. VerdictTold options.now program.now found.reach found.made found.told (plain_of reply)) }
+    ensures { IfOk result (λ reply. VerdictTold options.now program.now found.reach found.clean found.made found.told (plain_of reply)) }
 {
-    let status = verdict_status(found.reach, found.made.is_well());
+    let status = verdict_status(found.reach, found.clean);
     let Examined {
         reach: _,
+        clean: _,
         made,
         told,
         said,
@@ -330,11 +384,18 @@ fn files_of(
     }
 }
 
-// The status of what was found.
-fn verdict_status(reach: Option<usize>, well: bool) -> u8
-    ensures { result ≡ spec.verdict_status reach well }
+// Whether nothing bad was found, where all ends are good, or not.
+fn is_clean(endless: bool, well: bool, verdict: &Verdict) -> bool
+    ensures { result ≡ spec.is_clean endless well verdict.now }
 {
-    if !well {
+    well && verdict.faults.is_empty() && (endless || verdict.unending.is_none())
+}
+
+// The status of what was found.
+fn verdict_status(reach: Option<usize>, clean: bool) -> u8
+    ensures { result ≡ spec.verdict_status reach clean }
+{
+    if !clean {
         UNWELL
     } else if reach.is_some() {
         BOUNDED

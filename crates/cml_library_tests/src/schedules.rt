@@ -44,6 +44,43 @@ fn has_ends(rt: &(impl Abort + AllocGlobal), script: &str, count: usize) {
     drop(program);
 }
 
+// A thread ends at a fault beside one that goes on without end.
+const FAULT_BESIDE: &str =
+    "(fn wrong () (let x (+ \"a\" 1))) (fn main () (spawn wrong) (while true (yield)))";
+
+// One choice is followed by no end.
+const ROUND: &str =
+    "(fn main () (let x (sync (choose (always 0) (always 1)))) (while (= x 1) (yield)))";
+
+// The schedules of this script come to so many faults, the first by so many items (if there is one); and whether each can go on to an end.
+fn has_faults(
+    rt: &(impl Abort + AllocGlobal),
+    script: &str,
+    count: usize,
+    items: Option<usize>,
+    ends: bool,
+) {
+    let program = program_of(rt, script);
+    let verdict = verify(rt.alloc(), &program, 10_000).expect(rt, MEMORY);
+    assert!(rt; verdict.faults.len() == count, "{script}");
+    let first = match verdict.faults.get(0) {
+        Some(schedule) => Some(schedule.len()),
+        None => None,
+    };
+    assert!(rt; first == items, "{script}");
+    assert!(rt; verdict.unending.is_none() == ends, "{script}");
+    drop(verdict);
+    drop(program);
+}
+
+#[test]
+fn each_fault_is_told(rt: HostRuntime) {
+    has_faults(&rt, LOCKS, 0, None, true);
+    has_faults(&rt, PUT, 1, Some(3), true);
+    has_faults(&rt, FAULT_BESIDE, 1, Some(2), false);
+    has_faults(&rt, ROUND, 0, None, false);
+}
+
 #[test]
 fn each_end_is_told(rt: HostRuntime) {
     has_ends(&rt, "(fn main ())", 1);

@@ -287,6 +287,15 @@ module _ {S I : Type 0} (y : System S I) (lawful : IsLawful y) (quietly : Bool) 
       below_followed j in' lt (inl e) = absurd (omega (arith, found.broad.order followed j e in', lt))
       below_followed j in' lt (inr e) = e
 
+  -- what fewer items lead to than to the first state that was not followed was followed
+  pub followed_within : followed < length states → (count at : ℕ) → at ≡ 0 → ((d : ℕ → ℕ) → Depths origins d → count + d at ≡ d followed)
+      → (items : List I) (s : S) → IsSought y quietly items s → length items < count → IsFoundBefore states followed s
+  followed_within stopped count at zero_is counts items s sought few =
+      let b = found.broad in
+      let whole : count + b.depth at ≡ b.depth followed = counts b.depth b.counts in
+      let start : b.depth at ≡ 0 = ap b.depth zero_is ∙ b.counts.start in
+      stands_before y lawful quietly followed states origins found.keeps b followed stopped items s sought (omega (arith, few, whole, start))
+
 -- where a search begins
 pub begins_broad : {S I : Type 0} (y : System S I) (quietly : Bool) → IsSearch y quietly 0 (y.start ∷ []) []
 begins_broad {S} {I} y quietly =

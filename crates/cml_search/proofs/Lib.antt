@@ -11,3 +11,5 @@ pub mod Listing
 pub mod Local
 pub mod Broad
 pub mod Deep
+pub mod Edges
+pub mod Marking

@@ -1,5 +1,5 @@
 -- What a search keeps.
-use Rattle.std.specs.Prelude.{◌≡◌, ℕ, ◌+◌, ◌<◌, ◌≤◌, Bool, true, List, [], ◌∷◌, ◌++◌, length, Some, option_and_then, slice_get, IfSome, ◌⊎◌}
+use Rattle.std.specs.Prelude.{◌≡◌, ℕ, ◌+◌, ◌<◌, ◌≤◌, Bool, true, List, [], ◌∷◌, ◌++◌, length, Some, option_and_then, slice_get, IfSome, Contains, ◌⊎◌}
 use Rattle.std.specs.List.{All}
 use Rattle.cml_search.specs.Systems.{System, run, IsReached, IsTerminal, IsFollowed, IsFollowedQuietly}
 
@@ -10,6 +10,10 @@ IsLonger {S} old new = (more : List S) × (new ≡ old ++ more)
 -- the state stands before this place
 abbrev pub IsFoundBefore : {S : Type 0} → List S → ℕ → S → Type 0
 IsFoundBefore states place s = (k : ℕ) × (k < place) × (slice_get states k ≡ Some s)
+
+-- the item leads on from this place: an edge says where
+abbrev pub LeadsOnBy : {I : Type 0} → List (ℕ × I × ℕ) → ℕ → I → Type 0
+LeadsOnBy edges place i = (to : ℕ) × Contains edges (place, i, to)
 
 -- By the origins, one item more leads to a state than to the one that it came of: how many lead to the state at each place.
 pub record Depths {I : Type 0} (origins : List (ℕ × I)) (depth : ℕ → ℕ) : Type 0 where
@@ -68,3 +72,17 @@ module _ {S I : Type 0} (y : System S I) where
   -- No fewer items lead to the state at this place, where it does not stand before: all that fewer items lead to stands before the place.
   abbrev pub AreFewest : Bool → List S → ℕ → List I → Type 0
   AreFewest quietly states place items = (others : List I) (s : S) → IsSought quietly others s → length others < length items → IsFoundBefore states place s
+
+  -- The item of an edge leads from the state at the one place to the state at the other.
+  pub record IsEdge (states : List S) (e : ℕ × I × ℕ) : Type 0 where
+    pub from : S
+    pub to : S
+    pub stands : slice_get states e.0 ≡ Some from
+    pub there : slice_get states e.2 ≡ Some to
+    pub leads : y.step from e.1 ≡ Some to
+
+  -- From each of so many of the first states, an edge says of each of enough items where it leads; and from the next state of each of these.
+  pub record AreEdges (quietly : Bool) (followed : ℕ) (states : List S) (edges : List (ℕ × I × ℕ)) (begun : List I) : Type 0 where
+    pub each : All (IsEdge states) edges
+    pub done : (j : ℕ) (s : S) → j < followed → slice_get states j ≡ Some s → (items : List I) × AreEnough quietly s items × All (LeadsOnBy edges j) items
+    pub here : All (LeadsOnBy edges followed) begun

@@ -4,7 +4,7 @@ ghost use Rattle.std.specs.Prelude.{Contains, ◌≡◌, ◌<◌, ◌≤◌, ◌
 ghost use Rattle.std.specs.List.{All};
 ghost use Rattle.cml_search.specs.Systems.{run, IsReached, IsTerminal, IsSchedule, LeadsTo, LeadsInto};
 ghost use Rattle.indexmap.specs.IndexSet.{IsUnique};
-ghost use Rattle.cml_search.specs.Searches.{Depths, IsTrail, Keeps, AreEnough, WasFollowed, IsLonger, IsBroad, IsSearch, IsSought, AreFewest};
+ghost use Rattle.cml_search.specs.Searches.{Depths, IsTrail, Keeps, AreEnough, WasFollowed, IsLonger, IsBroad, IsSearch, IsSought, IsFoundBefore, AreFewest, AreEdges};
 
 use crate::system::{Gap, System};
 use indexmap::IndexSet;
@@ -16,6 +16,8 @@ use std::hash::Hash;
 pub struct Found<K: Eq + Hash, I> {
     kept: IndexSet<K>,
     origins: Vec<(usize, I)>,
+    // The items that were followed: from the state at which place, and to which.
+    edges: Vec<(usize, I, usize)>,
     // Whether a quiet turn was followed alone.
     quietly: bool,
     // How many of the first states were followed.
@@ -30,6 +32,13 @@ impl<K: Eq + Hash, I> Found<K, I> {
         ensures once { IsUnique K.eq self.now.kept }
     {
         self.kept.as_slice()
+    }
+
+    /// The items that were followed: from the state at which place, and to which.
+    pub fn edges(&self) -> &[(usize, I, usize)]
+        ensures { result.now ≡ self.now.edges.items }
+    {
+        self.edges.as_slice()
     }
 
     /// Whether the search went through all states, and did not stop at its bound.
@@ -54,6 +63,7 @@ pub(crate) fn begin<Y: System>(
     quietly: bool,
 ) -> Result<Found<Y::Kept, Y::Item>, Gap>
     ensures search { IfOk result (λ f. IsSearch (Y.rules system.now) quietly 0 (map (Y.state_of system.now) f.kept.keys) f.origins.items) }
+    ensures edges { IfOk result (λ f. AreEdges (Y.rules system.now) quietly 0 (map (Y.state_of system.now) f.kept.keys) f.edges.items []) }
     ensures one { IfOk result (λ f. length f.kept.keys ≡ 1) }
     ensures quietly { IfOk result (λ f. f.quietly ≡ quietly) }
 {
@@ -63,6 +73,7 @@ pub(crate) fn begin<Y: System>(
     Ok(Found {
         kept,
         origins: Vec::new(alloc),
+        edges: Vec::new(alloc),
         quietly,
         followed: 0,
         whole: true,
@@ -89,8 +100,38 @@ pub(crate) fn items_of<Y: System>(
     system.allowed(alloc, schedule)
 }
 
-// Adds the state to which an item leads from the one at this place, to which this schedule leads.
+// Adds the state to which an item leads from the one at this place, to which this schedule leads. Answers at which place it stands.
 pub(crate) fn follow<Y: System>(
+    alloc: Global,
+    system: &Y,
+    found: &mut Found<Y::Kept, Y::Item>,
+    at: usize,
+    schedule: &[Y::Item],
+    item: Y::Item,
+) -> Result<usize, Gap>
+    requires keeps { Keeps (Y.rules system.now) (map (Y.state_of system.now) found.old.kept.keys) found.old.origins.items }
+    requires leads { run (Y.rules system.now) (Y.rules system.now).start schedule.now ≡ slice_get (map (Y.state_of system.now) found.old.kept.keys) at }
+    requires can { LeadsTo (Y.rules system.now) schedule.now (λ s. IsSome ((Y.rules system.now).step s item)) }
+    ensures keeps { OnOk result (Keeps (Y.rules system.now) (map (Y.state_of system.now) found.new.kept.keys) found.new.origins.items) }
+    ensures longer { OnOk result (IsLonger (map (Y.state_of system.now) found.old.kept.keys) (map (Y.state_of system.now) found.new.kept.keys)) }
+    ensures leads { OnOk result (LeadsTo (Y.rules system.now) schedule.now (λ s. LeadsInto (Y.rules system.now) (map (Y.state_of system.now) found.new.kept.keys) s item)) }
+    ensures broad { OnOk result ((q : Bool) (begun : List Y.Item) → IsBroad (Y.rules system.now) q at (map (Y.state_of system.now) found.old.kept.keys) found.old.origins.items begun
+        → IsBroad (Y.rules system.now) q at (map (Y.state_of system.now) found.new.kept.keys) found.new.origins.items (begun ++ item ∷ [])) }
+    ensures place { IfOk result (λ to. LeadsTo (Y.rules system.now) schedule.now (λ s. IsSome ((Y.rules system.now).step s item)
+        × ((Y.rules system.now).step s item ≡ slice_get (map (Y.state_of system.now) found.new.kept.keys) to))) }
+    ensures one { OnOk result (length found.new.kept.keys ≤ length found.old.kept.keys + 1) }
+    ensures edges { found.new.edges.items ≡ found.old.edges.items }
+{
+    let next = system.step(alloc, schedule, item)?;
+    let (to, new) = found.kept.insert_full(next)?;
+    if new {
+        found.origins.push((at, item))?;
+    }
+    Ok(to)
+}
+
+// The same, and adds that the item leads there.
+pub(crate) fn follow_edge<Y: System>(
     alloc: Global,
     system: &Y,
     found: &mut Found<Y::Kept, Y::Item>,
@@ -107,12 +148,11 @@ pub(crate) fn follow<Y: System>(
     ensures one { OnOk result (length found.new.kept.keys ≤ length found.old.kept.keys + 1) }
     ensures broad { OnOk result ((q : Bool) (begun : List Y.Item) → IsBroad (Y.rules system.now) q at (map (Y.state_of system.now) found.old.kept.keys) found.old.origins.items begun
         → IsBroad (Y.rules system.now) q at (map (Y.state_of system.now) found.new.kept.keys) found.new.origins.items (begun ++ item ∷ [])) }
+    ensures edges { OnOk result ((q : Bool) (begun : List Y.Item) → AreEdges (Y.rules system.now) q at (map (Y.state_of system.now) found.old.kept.keys) found.old.edges.items begun
+        → AreEdges (Y.rules system.now) q at (map (Y.state_of system.now) found.new.kept.keys) found.new.edges.items (begun ++ item ∷ [])) }
 {
-    let next = system.step(alloc, schedule, item)?;
-    let (_, new) = found.kept.insert_full(next)?;
-    if new {
-        found.origins.push((at, item))?;
-    }
+    let to = follow(alloc, system, found, at, schedule, item)?;
+    found.edges.push((at, item, to))?;
     Ok(())
 }
 
@@ -139,11 +179,15 @@ pub(crate) fn follow_all<Y: System>(
     ensures over { OnOk result (length found.new.kept.keys ≤ bound + 1) }
     ensures broad { IfOk result (λ all. IsTrue all → (q : Bool) → IsBroad (Y.rules system.now) q at (map (Y.state_of system.now) found.old.kept.keys) found.old.origins.items []
         → IsBroad (Y.rules system.now) q at (map (Y.state_of system.now) found.new.kept.keys) found.new.origins.items items.now) }
+    ensures edges { IfOk result (λ all. IsTrue all → (q : Bool) → AreEdges (Y.rules system.now) q at (map (Y.state_of system.now) found.old.kept.keys) found.old.edges.items []
+        → AreEdges (Y.rules system.now) q at (map (Y.state_of system.now) found.new.kept.keys) found.new.edges.items items.now) }
+    ensures some_edges { OnOk result ((q : Bool) → AreEdges (Y.rules system.now) q at (map (Y.state_of system.now) found.old.kept.keys) found.old.edges.items []
+        → AreEdges (Y.rules system.now) q at (map (Y.state_of system.now) found.new.kept.keys) found.new.edges.items []) }
     ensures some { OnOk result ((q : Bool) → IsBroad (Y.rules system.now) q at (map (Y.state_of system.now) found.old.kept.keys) found.old.origins.items []
         → IsBroad (Y.rules system.now) q at (map (Y.state_of system.now) found.new.kept.keys) found.new.origins.items []) }
 {
     for item in items {
-        follow(alloc, system, found, at, schedule, *item)?;
+        follow_edge(alloc, system, found, at, schedule, *item)?;
         if found.kept.len() > bound {
             return Ok(false);
         }
@@ -185,8 +229,11 @@ fn follow_at<Y: System>(
     bound: usize,
 ) -> Result<bool, Gap>
     requires search { IsSearch (Y.rules system.now) quietly at (map (Y.state_of system.now) found.old.kept.keys) found.old.origins.items }
+    requires edges { AreEdges (Y.rules system.now) quietly at (map (Y.state_of system.now) found.old.kept.keys) found.old.edges.items [] }
     requires within { at < length found.old.kept.keys }
     requires bounded { length found.old.kept.keys ≤ bound }
+    ensures some_edges { OnOk result (AreEdges (Y.rules system.now) quietly at (map (Y.state_of system.now) found.new.kept.keys) found.new.edges.items []) }
+    ensures edges { IfOk result (λ all. IsTrue all → AreEdges (Y.rules system.now) quietly (at + 1) (map (Y.state_of system.now) found.new.kept.keys) found.new.edges.items []) }
     ensures longer { OnOk result (IsLonger (map (Y.state_of system.now) found.old.kept.keys) (map (Y.state_of system.now) found.new.kept.keys)) }
     ensures some { OnOk result (IsSearch (Y.rules system.now) quietly at (map (Y.state_of system.now) found.new.kept.keys) found.new.origins.items) }
     ensures bounded { IfOk result (λ all. IsTrue all → length found.new.kept.keys ≤ bound) }
@@ -214,6 +261,7 @@ fn search<Y: System>(
     requires { 0 < bound }
     ensures search { IfOk result (λ f. IsSearch (Y.rules system.now) quietly f.followed (map (Y.state_of system.now) f.kept.keys) f.origins.items) }
     ensures followed { IfOk result (λ f. IsTrue f.whole → All (WasFollowed (Y.rules system.now) quietly (map (Y.state_of system.now) f.kept.keys)) (map (Y.state_of system.now) f.kept.keys)) }
+    ensures edges { IfOk result (λ f. AreEdges (Y.rules system.now) quietly f.followed (map (Y.state_of system.now) f.kept.keys) f.edges.items []) }
     ensures whole { IfOk result (λ f. IsTrue f.whole → f.followed ≡ length f.kept.keys) }
     ensures stopped { IfOk result (λ f. f.whole ≡ false → f.followed < length f.kept.keys) }
     ensures full { IfOk result (λ f. f.whole ≡ false → bound < length f.kept.keys) }
@@ -249,6 +297,7 @@ pub fn all_states<Y: System>(
 ) -> Result<Found<Y::Kept, Y::Item>, Gap>
     requires { 0 < bound }
     ensures search { IfOk result (λ f. IsSearch (Y.rules system.now) f.quietly f.followed (map (Y.state_of system.now) f.kept.keys) f.origins.items) }
+    ensures edges { IfOk result (λ f. AreEdges (Y.rules system.now) f.quietly f.followed (map (Y.state_of system.now) f.kept.keys) f.edges.items []) }
     ensures any { IfOk result (λ f. f.quietly ≡ false) }
     ensures whole { IfOk result (λ f. IsTrue f.whole → f.followed ≡ length f.kept.keys) }
     ensures stopped { IfOk result (λ f. f.whole ≡ false → f.followed < length f.kept.keys) }
@@ -301,7 +350,7 @@ pub fn schedule_to<Y: System>(
 }
 
 /// How far a search came that stopped at its bound: each state that it seeks, and to which a schedule of at most so many items leads, was
-/// found.
+/// found, and if they are fewer items it was followed.
 pub fn reach<Y: System>(_system: &Y, found: &Found<Y::Kept, Y::Item>) -> usize
     requires search { IsSearch (Y.rules _system.now) found.now.quietly found.now.followed (map (Y.state_of _system.now) found.now.kept.keys) found.now.origins.items }
     requires stopped { found.now.followed < length found.now.kept.keys }
@@ -309,6 +358,8 @@ pub fn reach<Y: System>(_system: &Y, found: &Found<Y::Kept, Y::Item>) -> usize
     ensures near { (k : ℕ) (s : Y.State) → slice_get (map (Y.state_of _system.now) found.now.kept.keys) k ≡ Some s
         → (items : List Y.Item) × (run (Y.rules _system.now) (Y.rules _system.now).start items ≡ Some s) × (length items ≤ result + 1) }
     ensures found { (items : List Y.Item) (s : Y.State) → IsSought (Y.rules _system.now) found.now.quietly items s → length items ≤ result → Contains (map (Y.state_of _system.now) found.now.kept.keys) s }
+    ensures followed { (items : List Y.Item) (s : Y.State) → IsSought (Y.rules _system.now) found.now.quietly items s → length items < result
+        → IsFoundBefore (map (Y.state_of _system.now) found.now.kept.keys) found.now.followed s }
 {
     let mut count = 0;
     let mut at = found.followed;

@@ -6,5 +6,7 @@ pub mod Stepping
 pub mod Counting
 pub mod Endings
 pub mod Verdicts
+pub mod Unending
+pub mod Faulting
 pub mod Digesting
 pub mod States

@@ -1,5 +1,5 @@
 -- From what is kept to the states that are counted.
-use Rattle.std.proofs.Common.{◌≡◌, ℕ, zero, suc, ◌+◌, true, false, Bool, List, [], ◌∷◌, length, map, Option, None, Some, slice_get, Contains, refl, ap, sym, subst, ◌∙◌, true≢false}
+use Rattle.std.proofs.Common.{◌≡◌, ℕ, zero, suc, ◌+◌, ◌<◌, true, false, Bool, List, [], ◌∷◌, length, map, Option, None, Some, slice_get, Contains, refl, ap, sym, subst, ◌∙◌, true≢false}
 use Rattle.std.specs.Prelude.{option_map}
 use Rattle.std.specs.List.{All, AllByRecursion, IsDistinct}
 use Rattle.std.proofs.lemmas.List.{length-map}
@@ -10,12 +10,13 @@ use Rattle.cml_step.specs.Calls.{text_of}
 use Rattle.cml_hub.specs.Runs.{Run, stands}
 use Rattle.cml_search.specs.Systems.{System, run}
 use Rattle.cml_search.specs.Searches.{IsSought}
-use Rattle.cml_search.proofs.Places.{place_of, all_at, mapped_has}
+use Rattle.cml_search.proofs.Places.{there, place_of, all_at, mapped_has}
 use Rattle.cml_verify.specs.Cores.{Core, past, core_of, program_system}
+use Rattle.cml_verify.specs.Ends.{AreSchedulesTo}
 use Rattle.cml_verify.specs.Kept.{PlainKept, core_kept, state_code}
 use Rattle.cml_verify.specs.Placed.{AreThreadsIn}
 use Rattle.cml_verify.specs.Sameness.{is_same, is_same_so}
-use Rattle.cml_verify.specs.Verdicts.{IsWithin, RunState, StandsSo, CountsStates}
+use Rattle.cml_verify.specs.Verdicts.{IsWithin, RunState, StandsSo, LeadApart, CountsStates}
 use Rattle.cml_verify.proofs.Viewed.{runs_core, run_behind}
 use Rattle.cml_verify.proofs.Verdicts.{all_from}
 
@@ -98,6 +99,20 @@ module _ (p : List (PlainItem ℕ)) (with_output : Bool) (keys : List PlainKept)
       let r = led i (core_kept p b.0) at in
       (r.0, subst (StandsSo p with_output r.0) b.2 (stands_so r.0 b.0 r.1), r.2))
 
+  -- the schedules that are told lead to the states at different places
+  pub lead_apart : (places : List ℕ) (told : List (List Item)) → AreSchedulesTo y cores places (length places) told → All (λ k. k < length keys) places
+      → ((i j k : ℕ) → slice_get places i ≡ Some k → slice_get places j ≡ Some k → i ≡ j) → LeadApart p with_output states told
+  lead_apart places told t within apart = record {
+    places = places;
+    apart = apart;
+    each = λ i schedule h.
+        let q = t.each i schedule h in
+        let a = there keys q.0 (all_at (λ (k : ℕ). k < length keys) places i q.0 within q.1) in
+        let core : slice_get cores q.0 ≡ Some (core_kept p a.0) = slice_get-map (core_kept p) keys q.0 ∙ ap (option_map (core_kept p)) a.1 in
+        let state : slice_get states q.0 ≡ Some (state_kept a.0) = slice_get-map state_kept keys q.0 ∙ ap (option_map state_kept) a.1 in
+        (q.0, state_kept a.0, q.1, state, stands_so schedule a.0 (q.2 ∙ core));
+  }
+
   module _ (most : Option ℕ) (all : (items : List Item) (c : Core) → IsWithin most items → IsSought y false items c → Contains cores c) where
     each : (schedule : List Item) (r : Run) → IsWithin most schedule → stands (text_of p) schedule ≡ Some r → (s : RunState) × Contains states s × StandsSo p with_output schedule s
     each schedule r within h =
@@ -108,5 +123,6 @@ module _ (p : List (PlainItem ℕ)) (with_output : Bool) (keys : List PlainKept)
         let kept : Contains keys b.0 = (has.0, slice_get_within keys has.0 b.0 b.1, get_or_from_slice_get keys has.0 b.0 b.0 b.1) in
         (state_kept b.0, mapped_has state_kept keys b.0 kept, stands_so schedule b.0 (leads ∙ ap (λ c. Some c) (sym b.2)))
 
-    pub are_counted : IsDistinct (is_same state_code) keys → All (λ k. AreThreadsIn p k.machines) keys → AreLedTo most → (n : ℕ) → n ≡ length keys → CountsStates p with_output most n
-    are_counted d l r n e = (states, record { different = different d; placed = placed l; reached = reached most r; each = each }, length-map keys state_kept ∙ sym e)
+    pub are_counted : IsDistinct (is_same state_code) keys → All (λ k. AreThreadsIn p k.machines) keys → AreLedTo most → (n : ℕ) → n ≡ length keys → (told : List (List Item))
+        → LeadApart p with_output states told → CountsStates p with_output most told n
+    are_counted d l r n e told apart = (states, record { different = different d; placed = placed l; reached = reached most r; each = each }, length-map keys state_kept ∙ sym e, apart)

@@ -69,7 +69,7 @@ module _ (p : List (PlainItem ℕ)) (with_output : Bool) (keys : List PlainKept)
   y = program_system (text_of p) with_output
 
   -- what is kept of a state at a place
-  kept_behind : (k : ℕ) (c : Core) → slice_get states k ≡ Some c → (a : PlainKept) × (slice_get keys k ≡ Some a) × (core_kept p a ≡ c)
+  pub kept_behind : (k : ℕ) (c : Core) → slice_get states k ≡ Some c → (a : PlainKept) × (slice_get keys k ≡ Some a) × (core_kept p a ≡ c)
   kept_behind k c h = by (slice_get keys k) refl (sym (slice_get-map (core_kept p) keys k) ∙ h)
     where
       by : (o : Option PlainKept) → slice_get keys k ≡ o → option_map (core_kept p) o ≡ Some c → (a : PlainKept) × (slice_get keys k ≡ Some a) × (core_kept p a ≡ c)

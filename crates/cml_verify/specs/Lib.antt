@@ -6,3 +6,5 @@ pub mod Lawful
 pub mod Ends
 pub mod Digests
 pub mod Placed
+pub mod Faults
+pub mod Falling

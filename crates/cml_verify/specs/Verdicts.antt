@@ -78,9 +78,17 @@ pub record AreStates (p : List (PlainItem ℕ)) (with_output : Bool) (most : Opt
   pub each : (schedule : List Item) (run : Run) → IsWithin most schedule → stands (text_of p) schedule ≡ Some run
       → (s : RunState) × Contains states s × StandsSo p with_output schedule s
 
--- There are so many states: all of them, or at least all to which schedules of at most so many items lead.
-abbrev pub CountsStates : List (PlainItem ℕ) → Bool → Option ℕ → ℕ → Type 0
-CountsStates p with_output most n = (states : List RunState) × AreStates p with_output most states × (length states ≡ n)
+-- No two of the schedules lead to one of these states: they lead to those at places that differ.
+pub record LeadApart (p : List (PlainItem ℕ)) (with_output : Bool) (states : List RunState) (told : List (List Item)) : Type 0 where
+  pub places : List ℕ
+  pub apart : (i j k : ℕ) → slice_get places i ≡ Some k → slice_get places j ≡ Some k → i ≡ j
+  pub each : (i : ℕ) (schedule : List Item) → slice_get told i ≡ Some schedule
+      → (k : ℕ) × (s : RunState) × (slice_get places i ≡ Some k) × (slice_get states k ≡ Some s) × StandsSo p with_output schedule s
+
+-- There are so many states: all of them, or at least all to which schedules of at most so many items lead. No two of the schedules that are told
+-- lead to one of them.
+abbrev pub CountsStates : List (PlainItem ℕ) → Bool → Option ℕ → List (List Item) → ℕ → Type 0
+CountsStates p with_output most told n = (states : List RunState) × AreStates p with_output most states × (length states ≡ n) × LeadApart p with_output states told
 
 -- What is promised of the schedules that are told, of how many states there are, and of how many items at most the schedules had that were
 -- examined (nothing: all were), where the search stops at the first state beyond its bound, and only there. The output counts, or not.
@@ -89,4 +97,4 @@ pub record IsVerdict (p : List (PlainItem ℕ)) (with_output : Bool) (bound : �
   pub all : EveryEndIsTold (text_of p) with_output most told
   pub stopped : IfSome most (λ m. states ≡ bound + 1)
   pub finished : IfNone most (states ≤ bound)
-  pub counted : CountsStates p with_output most states
+  pub counted : CountsStates p with_output most told states

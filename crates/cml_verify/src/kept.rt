@@ -85,6 +85,13 @@ impl Kept {
         self.ends
     }
 
+    /// How many threads ended at a fault.
+    pub(crate) fn faults(&self) -> usize
+        ensures { result ≡ self.now.faults }
+    {
+        self.faults
+    }
+
     /// The machine of each thread by its number.
     pub(crate) fn machines(&self) -> &[Machine]
         ensures { result.now ≡ self.now.machines }

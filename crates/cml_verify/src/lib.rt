@@ -5,6 +5,7 @@ mod allowed;
 mod digest;
 mod ends;
 mod every;
+mod faults;
 mod kept;
 mod placed;
 mod read;

@@ -10,11 +10,15 @@ number-requires c = number_served _ _ (codes "states") _ _ c.requires refl refl
 pub flag-requires : goal.flag-requires
 flag-requires c = flag_served _ _ (codes "outcomes") c.requires refl
 
+pub flag-2-requires : goal.flag-2-requires
+flag-2-requires c = flag_served _ _ (codes "endless") c.requires refl
+
 pub returns : goal.returns
 returns c = record {
   script = c.given.ensures;
   states = cc;
   outcomes = c.flag.ensures;
+  endless = c.flag-2.ensures;
   save = c.get_str.ensures ∙ first_value-rows (found_of c.args.matches.now) (codes "save");
   servers = c.in_ok-servers.ensures;
   counts = search (rules, default_in_range);

@@ -1,6 +1,6 @@
 use Rattle.std.proofs.Common.{◌∙◌, ap, map}
 use Rattle.cml_host.specs.Outcomes.{plain_outcome_told}
-use Rattle.cml_host.specs.Verified.{ends_start, outcomes_reply, verdict_status}
+use Rattle.cml_host.specs.Verified.{ends_start, is_clean, outcomes_reply, verdict_status}
 use Rattle.cml_host.proofs.verify.tell_outcomes.Goals as goal
 
 pub returns-clause-told : goal.returns-clause-told
@@ -17,5 +17,6 @@ returns-clause-told c =
       outcomes = rw c.as_slice-schedules.ensures.value at c.in_ok-told.ensures;
       reply_is = c.in_ok-reply_outcomes.ensures
           ∙ (ap (λ ts. reply (map plain_outcome_told ts) c.verdict_status-status.result) c.as_slice.ensures.value
-          ∙ ap (λ n. reply told n) (c.verdict_status-status.ensures ∙ ap (verdict_status v.reach) c.is_well.ensures));
+          ∙ ap (λ n. reply told n) (c.verdict_status-status.ensures
+          ∙ ap (verdict_status v.reach) (c.is_clean-clean.ensures ∙ ap (λ well. is_clean c.args.options.now.endless well v) c.is_well.ensures)));
     }

@@ -1,12 +1,13 @@
-use Rattle.std.proofs.Common.{◌≡◌, ◌<◌, length, map, take, [], sym, subst, ◌∙◌, arith, append-nil}
+use Rattle.std.proofs.Common.{◌≡◌, ◌<◌, length, map, take, [], ◌∷◌, ◌++◌, sym, subst, ◌∙◌, arith, append-nil}
 use Rattle.std.specs.List.{All}
 use Rattle.std.proofs.lemmas.Option.{same_Some, slice_get_within}
 use Rattle.std.proofs.lemmas.List.{take_all}
 use Rattle.std.proofs.lemmas.List.Elements.{All-nil}
-use Rattle.cml_search.specs.{Systems.{LeadsTo, LeadsInto}, Searches.{IsBroad}}
+use Rattle.cml_search.specs.{Systems.{LeadsTo, LeadsInto}, Searches.{IsBroad, AreEdges}}
 use Rattle.cml_search.proofs.Places.{take_one}
 use Rattle.cml_search.proofs.Rounds.{longer_trans, same_place, leads_more}
 use Rattle.cml_search.proofs.Broad.{broad_none}
+use Rattle.cml_search.proofs.Edges.{edges_none}
 use Rattle.cml_search.proofs.found.follow_all.Goals as goal
 
 pub loop-item-init : goal.loop-item-init
@@ -20,11 +21,12 @@ loop-item-init g c =
       longer = ([], sym (append-nil keys));
       leads = (can.0, can.1, All-nil (LeadsInto y keys can.0));
       broad = λ q b. b;
+      edges = λ q b. b;
       bounded = c.requires.bounded;
     }
 
-pub follow-requires-clause-leads : goal.follow-requires-clause-leads
-follow-requires-clause-leads g c =
+pub follow_edge-requires-clause-leads : goal.follow_edge-requires-clause-leads
+follow_edge-requires-clause-leads g c =
     let f = g.Y.System.state_of c.args.system.now in
     let old = map f c.args.found.now.kept.keys in
     let mid = map f c.loop-item.found.kept.keys in
@@ -37,9 +39,9 @@ loop-item-preserved g c =
     let f = g.Y.System.state_of c.args.system.now in
     let old = map f c.args.found.now.kept.keys in
     let mid = map f c.loop-item.found.kept.keys in
-    let new = map f c.follow.new.found.kept.keys in
+    let new = map f c.follow_edge.new.found.kept.keys in
     let before = c.loop-item.invariant in
-    let after = c.in_ok-follow.ensures in
+    let after = c.in_ok-follow_edge.ensures in
     let one = after.leads in
     let is : before.leads.0 ≡ one.0 = same_Some before.leads.0 one.0 (sym before.leads.1 ∙ one.1) in
     record {
@@ -53,7 +55,10 @@ loop-item-preserved g c =
       );
       broad = λ q b.
           let next = after.broad q (take c.loop-item.item-index c.args.items.now) (before.broad q b) in
-          subst (λ l. IsBroad y q c.args.at new c.follow.new.found.origins.items l) (sym (take_one c.args.items.now c.loop-item.item-index c.item-item.result (omega arith) c.item-item.is)) next;
+          subst (λ l. IsBroad y q c.args.at new c.follow_edge.new.found.origins.items l) (sym (take_one c.args.items.now c.loop-item.item-index c.item-item.result (omega arith) c.item-item.is)) next;
+      edges = λ q b.
+          let next = after.edges q (take c.loop-item.item-index c.args.items.now) (before.edges q b) in
+          subst (λ l. AreEdges y q c.args.at new c.follow_edge.new.found.edges.items l) (sym (take_one c.args.items.now c.loop-item.item-index c.item-item.result (omega arith) c.item-item.is)) next;
       bounded = omega arith;
     }
 
@@ -76,3 +81,24 @@ returns-clause-some g c =
     let y = g.Y.System.rules c.args.system.now in
     let f = g.Y.System.state_of c.args.system.now in
     λ q b. broad_none y q c.args.at (map f c.loop-item.found.kept.keys) c.loop-item.found.origins.items (take c.loop-item.item-index c.args.items.now) (c.loop-item.invariant.broad q b)
+
+pub returns-clause-edges : goal.returns-clause-edges
+returns-clause-edges g c =
+    let y = g.Y.System.rules c.args.system.now in
+    let f = g.Y.System.state_of c.args.system.now in
+    let all : take c.loop-item.item-index c.args.items.now ≡ c.args.items.now = take_all c.loop-item.item-index c.args.items.now (omega arith) in
+    λ _ q b. subst (AreEdges y q c.args.at (map f c.loop-item.found.kept.keys) c.loop-item.found.edges.items) all (c.loop-item.invariant.edges q b)
+
+pub returns-clause-some_edges : goal.returns-clause-some_edges
+returns-clause-some_edges g c =
+    let y = g.Y.System.rules c.args.system.now in
+    let f = g.Y.System.state_of c.args.system.now in
+    λ q b. edges_none y q c.args.at (map f c.loop-item.found.kept.keys) c.loop-item.found.edges.items (take c.loop-item.item-index c.args.items.now) (c.loop-item.invariant.edges q b)
+
+pub returns-then-len-bound-clause-some_edges : goal.returns-then-len-bound-clause-some_edges
+returns-then-len-bound-clause-some_edges g c =
+    let y = g.Y.System.rules c.args.system.now in
+    let f = g.Y.System.state_of c.args.system.now in
+    let begun = take c.loop-item.item-index c.args.items.now in
+    λ q b. edges_none y q c.args.at (map f c.follow_edge.new.found.kept.keys) c.follow_edge.new.found.edges.items (begun ++ c.item-item.result ∷ [])
+    (c.in_ok-follow_edge.ensures.edges q begun (c.loop-item.invariant.edges q b))

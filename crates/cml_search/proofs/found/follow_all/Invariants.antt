@@ -1,7 +1,7 @@
 use Rattle.std.proofs.Common.{◌≤◌, Bool, [], length, map, take}
 use Rattle.std.specs.List.{All}
 use Rattle.cml_search.specs.Systems.{LeadsTo, LeadsInto}
-use Rattle.cml_search.specs.Searches.{Keeps, IsLonger, IsBroad}
+use Rattle.cml_search.specs.Searches.{Keeps, IsLonger, IsBroad, AreEdges}
 use Rattle.cml_search.proofs.found.follow_all.Given as goal
 
 abbrev pub invariant-loop-item : goal.invariant-loop-item
@@ -13,5 +13,6 @@ invariant-loop-item g l =
       longer : IsLonger (map f l.fn.found.kept.keys) (map f l.found.kept.keys);
       leads : LeadsTo y l.schedule (λ s. All (LeadsInto y (map f l.found.kept.keys) s) (take l.item-index l.items));
       broad : (q : Bool) → IsBroad y q l.at (map f l.fn.found.kept.keys) l.fn.found.origins.items [] → IsBroad y q l.at (map f l.found.kept.keys) l.found.origins.items (take l.item-index l.items);
+      edges : (q : Bool) → AreEdges y q l.at (map f l.fn.found.kept.keys) l.fn.found.edges.items [] → AreEdges y q l.at (map f l.found.kept.keys) l.found.edges.items (take l.item-index l.items);
       bounded : length l.found.kept.keys ≤ l.bound;
     }

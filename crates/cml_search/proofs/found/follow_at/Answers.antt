@@ -2,8 +2,9 @@ use Rattle.std.proofs.Common.{◌≡◌, ◌<◌, length, map, slice_get, Some, 
 use Rattle.std.specs.List.{All}
 use Rattle.std.proofs.lemmas.List.{length-map}
 use Rattle.cml_search.specs.Systems.{LeadsTo, LeadsInto}
-use Rattle.cml_search.specs.Searches.{IsBroad}
+use Rattle.cml_search.specs.Searches.{IsBroad, AreEdges}
 use Rattle.cml_search.proofs.Broad.{broad_more}
+use Rattle.cml_search.proofs.Edges.{edges_more}
 use Rattle.cml_search.proofs.Places.{there}
 use Rattle.cml_search.proofs.Rounds.{can_here, same_place, was_followed_at}
 use Rattle.cml_search.proofs.found.follow_at.Goals as goal
@@ -65,3 +66,21 @@ returns-clause-followed g c =
     λ yes.
     let leads = subst (λ l. LeadsTo y c.as_slice-way.result.now (λ s. All (LeadsInto y new s) l)) c.as_slice-next.ensures.value (c.in_ok-all.ensures.leads yes) in
     was_followed_at y c.args.quietly old new c.args.at c.as_slice-way.result.now items (rw c.as_slice-way.ensures.value c.in_ok-schedule.ensures.leads) c.in_ok-items.ensures leads
+
+pub returns-clause-some_edges : goal.returns-clause-some_edges
+returns-clause-some_edges g c = c.in_ok-all.ensures.some_edges c.args.quietly c.requires.edges
+
+pub returns-clause-edges : goal.returns-clause-edges
+returns-clause-edges g c =
+    let y = g.Y.System.rules c.args.system.now in
+    let f = g.Y.System.state_of c.args.system.now in
+    let old = map f c.args.found.now.kept.keys in
+    let new = map f c.follow_all.new.found.kept.keys in
+    let edges = c.follow_all.new.found.edges.items in
+    let q = c.in_ok-items.ensures in
+    let items = c.in_ok-items.items.items in
+    let stands : slice_get old c.args.at ≡ Some q.0 = sym c.in_ok-schedule.ensures.leads ∙ rw c.as_slice-way.ensures.value at q.1 in
+    let in' : c.args.at < length old = omega (arith, length-map c.args.found.now.kept.keys f, c.requires.within) in
+    λ yes.
+    edges_more y c.args.quietly c.args.at new edges q.0 items (same_place old new c.args.at c.in_ok-all.ensures.longer in' ∙ stands) q.2
+    (subst (AreEdges y c.args.quietly c.args.at new edges) c.as_slice-next.ensures.value (c.in_ok-all.ensures.edges yes c.args.quietly c.requires.edges))

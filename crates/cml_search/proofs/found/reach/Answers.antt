@@ -1,7 +1,7 @@
 use Rattle.std.proofs.Common.{◌≡◌, suc, ◌+◌, ◌-◌, ◌<◌, length, map, slice_get, Some, refl, ap, sym, ◌∙◌, arith}
 use Rattle.std.proofs.lemmas.Option.{slice_get_read, slice_get_within}
 use Rattle.std.proofs.lemmas.List.{length-map}
-use Rattle.cml_search.proofs.Broad.{found_within}
+use Rattle.cml_search.proofs.Broad.{found_within, followed_within}
 use Rattle.cml_search.proofs.Deep.{way}
 use Rattle.cml_search.proofs.found.reach.Goals as goal
 
@@ -47,3 +47,10 @@ returns-clause-near g c = λ k s at.
       w.leads,
       omega (arith, w.long, b.near stopped k (slice_get_within states k s at), c.loop-at.invariant.counts b.depth b.counts, ap b.depth first, b.counts.start),
     )
+
+pub returns-clause-followed : goal.returns-clause-followed
+returns-clause-followed g c =
+    let found = c.args.found.now in
+    let f = g.Y.System.state_of c.args._system.now in
+    followed_within (g.Y.System.rules c.args._system.now) (g.met.Y.System.lawful c.args._system.now) found.quietly found.followed (map f found.kept.keys) found.origins.items c.requires.search
+    (omega (arith, length-map found.kept.keys f, c.requires.stopped)) c.loop-at.count c.loop-at.at (omega arith) c.loop-at.invariant.counts

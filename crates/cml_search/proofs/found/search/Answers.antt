@@ -20,6 +20,7 @@ loop-at-preserved g c =
     let t = there old c.loop-at.at (omega (arith, old_size)) in
     record {
       search = after.search (grind arith);
+      edges = after.edges (grind arith);
       done = followed_more y c.args.quietly old new c.loop-at.at t.0 t.1 after.longer before.done
           (at_some (WasFollowed y c.args.quietly new) (slice_get old c.loop-at.at) t.0 t.1 (after.followed (grind arith)));
       within = omega (arith, old_size, new_size, no_shorter old new after.longer);

@@ -1,6 +1,6 @@
-use Rattle.std.proofs.Common.{◌≤◌, ◌-◌, length, map, take}
+use Rattle.std.proofs.Common.{◌≤◌, ◌-◌, [], length, map, take}
 use Rattle.std.specs.List.{All}
-use Rattle.cml_search.specs.Searches.{IsSearch, WasFollowed}
+use Rattle.cml_search.specs.Searches.{IsSearch, WasFollowed, AreEdges}
 use Rattle.cml_search.proofs.found.search.Given as goal
 
 abbrev pub invariant-loop-at : goal.invariant-loop-at
@@ -9,6 +9,7 @@ invariant-loop-at g l =
     let states = map (g.Y.System.state_of l.system) l.found.kept.keys in
     record {
       search : IsSearch y l.quietly l.at states l.found.origins.items;
+      edges : AreEdges y l.quietly l.at states l.found.edges.items [];
       done : All (WasFollowed y l.quietly states) (take l.at states);
       within : l.at ≤ length l.found.kept.keys;
       bounded : length l.found.kept.keys ≤ l.bound;

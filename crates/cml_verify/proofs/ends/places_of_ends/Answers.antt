@@ -4,7 +4,7 @@ use Rattle.std.proofs.lemmas.List.Elements.{All-push}
 use Rattle.std.proofs.lemmas.Option.{slice_get_read}
 use Rattle.cml_hub.specs.Runs.{terminal}
 use Rattle.cml_verify.specs.Ends.{IsEndAt, EachEndIsAmong}
-use Rattle.cml_verify.proofs.Endings.{end_told, no_end}
+use Rattle.cml_verify.proofs.Endings.{end_told, no_end, ArePlacesApart, below_more, below_push, apart_push}
 use Rattle.cml_verify.proofs.ends.places_of_ends.Goals as goal
 use Rattle.cml_verify.proofs.ends.places_of_ends.Goals.{then-ends+in_ok-push, else-ends}
 
@@ -25,6 +25,8 @@ loop-k-preserved c =
             within = subst (All (λ j. j < length kept)) (sym after) (All-push (λ j. j < length kept) places k before.within lt);
             each = subst (All (IsEndAt kept)) (sym after) (All-push (IsEndAt kept) places k before.each here);
             all = subst (λ l. EachEndIsAmong kept l (k + 1)) (sym after) (end_told kept k places before.all);
+            below = subst (All (λ j. j < k + 1)) (sym after) (below_push places k before.below);
+            apart = subst ArePlacesApart (sym after) (apart_push places k before.below before.apart);
           }
       | else-ends w ↦
           let same = ap (λ v. v.items) w.places-is in
@@ -33,5 +35,7 @@ loop-k-preserved c =
             within = subst (All (λ j. j < length kept)) (sym same) before.within;
             each = subst (All (IsEndAt kept)) (sym same) before.each;
             all = subst (λ l. EachEndIsAmong kept l (k + 1)) (sym same) (no_end kept k places before.all a at goes);
+            below = subst (All (λ j. j < k + 1)) (sym same) (below_more places k before.below);
+            apart = subst ArePlacesApart (sym same) before.apart;
           }
     ]

@@ -1,8 +1,9 @@
-use Rattle.std.proofs.Common.{map, sym, ◌∙◌}
+use Rattle.std.proofs.Common.{[], ◌∷◌, map, sym, ◌∙◌, arith, length-append, true≢false}
+use Rattle.std.proofs.lemmas.List.{length-map}
 use Rattle.cml_search.specs.Systems.{IsReached}
-use Rattle.cml_search.proofs.Places.{all_at}
+use Rattle.cml_search.proofs.Places.{all_at, place_of}
 use Rattle.cml_step.specs.Calls.{text_of}
-use Rattle.cml_verify.specs.{Cores.{program_system}, Kept.{core_kept}}
+use Rattle.cml_verify.specs.{Cores.{program_system}, Kept.{core_kept}, Faults.{turn_of}}
 use Rattle.cml_verify.proofs.every.reach_of.Goals as goal
 
 pub reach-requires-clause-search : goal.reach-requires-clause-search
@@ -29,3 +30,15 @@ returns-clause-all c = λ items core within sought. (rw c.requires.any at c.reac
 
 pub returns-clause-stopped : goal.returns-clause-stopped
 returns-clause-stopped c = sym c.is_whole.ensures ∙ c.if-is_whole.false
+
+pub returns-then-is_whole-clause-followed : goal.returns-then-is_whole-clause-followed
+returns-then-is_whole-clause-followed c = λ items core thread within leads.
+    let whole = sym c.is_whole.ensures ∙ c.if-is_whole.true in
+    let keys = c.args.found.now.kept.keys in
+    let states = map (core_kept c.args.system.now.program) keys in
+    let has = c.requires.all whole core (items, leads) in
+    (has.0, omega (arith, has.1, c.requires.whole whole, length-map keys (core_kept c.args.system.now.program)), place_of states core has)
+
+pub returns-clause-followed : goal.returns-clause-followed
+returns-clause-followed c = λ items core thread within leads.
+    (rw c.requires.any at c.reach.ensures.followed) items core (leads, λ f. absurd (true≢false (sym f))) (omega (arith, length-append items (turn_of thread ∷ []), within))
