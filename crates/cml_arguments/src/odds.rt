@@ -288,11 +288,7 @@ fn step_odds(alloc: Global, options: StepOptions<'_>) -> Result<Option<String>, 
 }
 
 // And of a script and its schedule: standard input can't be both.
-fn input_odds(
-    alloc: Global,
-    script: &str,
-    schedule: &str,
-) -> Result<Option<String>, AllocError>
+fn input_odds(alloc: Global, script: &str, schedule: &str) -> Result<Option<String>, AllocError>
     ensures { IfOk result (λ told. ToldOdds (InputOdds script.now schedule.now) (option_map (λ text. string_bytes text) told)) }
 {
     if is_input(script) && is_input(schedule) {

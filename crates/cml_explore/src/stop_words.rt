@@ -45,12 +45,7 @@ pub(crate) fn push_count(
 }
 
 // Appends that this run is the first at which to stop: `--until deadlock: met by run 5, --seed 4 --priority 5`.
-fn push_met(
-    alloc: Global,
-    out: &mut Vec<u8>,
-    first: u64,
-    stop: Stopped,
-) -> Result<(), AllocError> {
+fn push_met(alloc: Global, out: &mut Vec<u8>, first: u64, stop: Stopped) -> Result<(), AllocError> {
     out.extend_from_slice(b"--until ")?;
     out.extend_from_slice(until_word(stop.kind).as_bytes())?;
     out.extend_from_slice(b": met by run ")?;

@@ -107,15 +107,11 @@ pub fn tell_shrunk(given: &[Item], found: &Shrunk, tries: u64) -> ShrunkTold
 fn push_none(alloc: Global, out: &mut Vec<u8>, told: ShrunkTold) -> Result<(), AllocError> {
     push_one(alloc, out, told.old)?;
     out.extend_from_slice(b": no shorter one was found in ")?;
-    if told.all {
-        out.extend_from_slice(b"all ")?;
-    }
     push_many(alloc, out, " try", " tries", told.tried)?;
-    out.extend_from_slice(b"\n")?;
     if told.all {
-        return Ok(());
+        return out.extend_from_slice(b", all that --tries allows\n");
     }
-    out.extend_from_slice(b"each item is needed, and so is what its thread does from there on\n")
+    out.extend_from_slice(b"\neach item is needed, and so is what its thread does from there on\n")
 }
 
 /// Appends how long the given schedule and the one that was found are, where that is shorter: `41 items, 9 commits -> 26 items, 5 commits`; and
@@ -123,11 +119,7 @@ fn push_none(alloc: Global, out: &mut Vec<u8>, told: ShrunkTold) -> Result<(), A
 ///
 /// # Errors
 /// Out of memory.
-pub fn write_shrunk(
-    alloc: Global,
-    out: &mut Vec<u8>,
-    told: ShrunkTold,
-) -> Result<(), AllocError> {
+pub fn write_shrunk(alloc: Global, out: &mut Vec<u8>, told: ShrunkTold) -> Result<(), AllocError> {
     if told.shorter {
         push_counts(alloc, out, told.old, told.new)
     } else {
