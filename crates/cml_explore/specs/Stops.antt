@@ -1,9 +1,10 @@
 -- The run at which to stop, and which classes are saved.
-use Rattle.std.specs.Prelude.{◌≡◌, ◌≤◌, ◌⊎◌, ℕ, ◌+◌, ◌-◌, ◌==◌, Bool, true, false, if◌then◌else◌, List, [], length, find, Option, None, option_map}
+use Rattle.std.specs.Prelude.{◌≡◌, ◌≤◌, ◌⊎◌, ℕ, ◌+◌, ◌-◌, ◌==◌, Bool, true, false, if◌then◌else◌, List, length, find, Option, None, option_map}
 use Rattle.std.specs.Option.{option_map_or}
 use Rattle.cml_check.specs.Syntax.{PlainItem}
 use Rattle.cml_hub.specs.Kept.{Kept}
 use Rattle.cml_seed.specs.SeedRuns.{IsSeedRun}
+use Rattle.cml_seed.specs.declared.order.Order.{Order}
 use Rattle.cml_explore.specs.declared.explored.Asked.{Asked}
 use Rattle.cml_explore.specs.declared.explored.Until.{Until}
 use Rattle.cml_explore.specs.declared.finish.Fate.{Fate}
@@ -17,11 +18,15 @@ use Rattle.cml_explore.specs.Orders.{seed_order}
 abbrev pub kind_of : List Until → Fate → Option Until
 kind_of until f = find (λ one. stops_at one f) until
 
+-- the run by this seed in this order, which is of this kind
+abbrev pub stopped_by : ℕ → Order → Until → Stopped
+stopped_by seed order kind = record { seed = seed; order = order; kind = kind }
+
 -- The run by this seed is one at which to stop, of this kind and in this order; or it is none.
 abbrev pub IsStopAt : List (PlainItem ℕ) → Asked → ℕ → Option Stopped → Type 0
 IsStopAt p asked seed stop =
     (h : Kept) × IsSeedRun p asked.budget (seed_order asked.orders seed) seed h
-    × (stop ≡ option_map (λ kind. record { seed = seed; order = seed_order asked.orders seed; kind = kind }) (kind_of asked.until.now (fate_of asked.servers.now h)))
+    × (stop ≡ option_map (stopped_by seed (seed_order asked.orders seed)) (kind_of asked.until.now (fate_of asked.servers.now h)))
 
 -- Where it is said at which runs to stop, this is the last of so many, if that is one; where it is not said, or there are no runs, there is none.
 abbrev pub IsLastStop : List (PlainItem ℕ) → Asked → ℕ → Option Stopped → Type 0

@@ -22,7 +22,7 @@ fn kind_of(until: &[Until], fate: Fate) -> Option<Until>
 
 // The run by this seed in this order, if it is of a kind at which to stop.
 fn stopped(seed: u64, order: Order, kind: Option<Until>) -> Option<Stopped>
-    ensures { result ≡ option_map (λ kind. record { seed = seed; order = order; kind = kind }) kind }
+    ensures { result ≡ option_map (spec.stopped_by seed order) kind }
 {
     match kind {
         Some(kind) => Some(Stopped { seed, order, kind }),

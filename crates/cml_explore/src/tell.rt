@@ -212,11 +212,11 @@ pub fn tell_runs(
         program,
         asked,
     };
-    let classes = script.all_told(made.classes())?;
     let runs = made.runs();
+    let stop = last_stop(alloc, program, &asked, runs)?;
     let servers = Vec::from_slice(alloc, asked.servers)?;
     let until = Vec::from_slice(alloc, asked.until)?;
-    let stop = last_stop(alloc, program, &asked, runs)?;
+    let classes = script.all_told(made.classes())?;
     Ok(RunsTold {
         runs,
         asked: asked.runs,
