@@ -449,12 +449,20 @@ VerifyOdds options told = IsSomeAnd options.save (λ start. SavesOver start.now 
 abbrev pub StepOdds : StepOptions → List ℕ → Type 0
 StepOdds options told = ReplacedOdds (codes "--record") (option_map (λ name. name.now) options.record) options.script.now told
 
+-- the script and its schedule are both to be read from standard input
+abbrev pub InputOdds : Text → Text → List ℕ → Type 0
+InputOdds script schedule told = (script ≡ codes "-") × (schedule ≡ codes "-") × (told ≡ codes "FILE and SCHEDULE can't both be -\n")
+
 -- the options of the command are at odds, and this says so
 abbrev pub AreAtOdds : Task → List ℕ → Type 0
 AreAtOdds (task_of.Trace options) told = TraceOdds options told
 AreAtOdds (task_of.Run options) told = RunOdds options told
+AreAtOdds (task_of.Replay options) told = InputOdds options.script.now options.schedule.now told
+AreAtOdds (task_of.Explain options) told = InputOdds options.script.now options.schedule.now told
 AreAtOdds (task_of.Explore options) told = ExploreOdds options told
 AreAtOdds (task_of.Verify options) told = VerifyOdds options told
+AreAtOdds (task_of.Shrink options) told = InputOdds options.script.now options.schedule.now told
+AreAtOdds (task_of.Draw options) told = InputOdds options.script.now options.schedule.now told
 AreAtOdds (task_of.Step options) told = StepOdds options told
 AreAtOdds _ told = ⊥
 

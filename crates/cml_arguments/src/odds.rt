@@ -1,8 +1,8 @@
 //! What is said of the options of a command that can't be used together.
 
-ghost use Rattle.std.specs.{Prelude.{◌≡◌, ◌↔◌, ◌<◌, ◌-◌, false, true, is_some, option_map, IfOk, IsTrue, List, MatchOption, Some, ℕ}, Char.{is_ascii_digit}};
+ghost use Rattle.std.specs.{Prelude.{◌≡◌, ◌↔◌, ◌<◌, ◌-◌, codes, false, true, is_some, option_map, IfOk, IsTrue, List, MatchOption, Some, ℕ}, Char.{is_ascii_digit}};
 ghost use Rattle.std.specs.{List.{list_all, list_any}, String.{string_bytes}};
-ghost use Rattle.cml_arguments.specs.Words.{saved_end, saved_name, start_of, AreOdds, Clash, DepthOdds, DrawnOdds, ExplainsLive, ExploreOdds, KindsOdds, LastOdds, OrderOdds, OverOdds, OverRecord, PassesTheLast, PicksOdds, ReplacedOdds, Replaces, RunOdds, SaveOdds, SavedOdds, SavesOver, SeedsOdds, StepOdds, ToldOdds, TraceOdds, TurnsOdds, UntilOdds, VerifyOdds, WatchOdds, WorkersOdds};
+ghost use Rattle.cml_arguments.specs.Words.{saved_end, saved_name, start_of, AreOdds, Clash, DepthOdds, DrawnOdds, ExplainsLive, ExploreOdds, InputOdds, KindsOdds, LastOdds, OrderOdds, OverOdds, OverRecord, PassesTheLast, PicksOdds, ReplacedOdds, Replaces, RunOdds, SaveOdds, SavedOdds, SavesOver, SeedsOdds, StepOdds, ToldOdds, TraceOdds, TurnsOdds, UntilOdds, VerifyOdds, WatchOdds, WorkersOdds};
 ghost use Rattle.cml_arguments.specs.Words as spec;
 
 use crate::{
@@ -20,8 +20,12 @@ pub fn told_odds(alloc: Global, task: &Task<'_>) -> Result<Option<String>, Alloc
     match task {
         Task::Trace(options) => trace_odds(alloc, *options),
         Task::Run(options) => run_odds(alloc, options),
+        Task::Replay(options) => input_odds(alloc, options.script, options.schedule),
+        Task::Explain(options) => input_odds(alloc, options.script, options.schedule),
         Task::Explore(options) => explore_odds(alloc, options),
         Task::Verify(options) => verify_odds(alloc, options),
+        Task::Shrink(options) => input_odds(alloc, options.script, options.schedule),
+        Task::Draw(options) => input_odds(alloc, options.script, options.schedule),
         Task::Step(options) => step_odds(alloc, *options),
         _ => Ok(None),
     }
@@ -281,6 +285,24 @@ fn step_odds(alloc: Global, options: StepOptions<'_>) -> Result<Option<String>, 
     ensures { IfOk result (λ told. ToldOdds (StepOdds options.entry) (option_map (λ text. string_bytes text) told)) }
 {
     told_replaced(alloc, "--record", options.record, options.script)
+}
+
+// And of a script and its schedule: standard input can't be both.
+fn input_odds(alloc: Global, script: &str, schedule: &str) -> Result<Option<String>, AllocError>
+    ensures { IfOk result (λ told. ToldOdds (InputOdds script.now schedule.now) (option_map (λ text. string_bytes text) told)) }
+{
+    if is_input(script) && is_input(schedule) {
+        Ok(Some(format!(in alloc; "FILE and SCHEDULE can't both be -\n")?))
+    } else {
+        Ok(None)
+    }
+}
+
+// Whether this names standard input.
+fn is_input(name: &str) -> bool
+    ensures { IsTrue result ↔ (name.now ≡ codes "-") }
+{
+    name == "-"
 }
 
 // What is said of the file that this option saves, where it would replace the one of this name.

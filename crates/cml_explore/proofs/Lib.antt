@@ -9,6 +9,7 @@ pub mod SightLemmas
 pub mod RankLemmas
 pub mod LawLemmas
 pub mod JudgeLemmas
+pub mod StopLemmas
 pub mod ToldLemmas
 pub mod EndLemmas
 pub mod OutcomeLemmas

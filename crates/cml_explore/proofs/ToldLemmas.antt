@@ -12,6 +12,7 @@ use Rattle.cml_explore.specs.declared.told.RunsTold.{RunsTold}
 use Rattle.cml_explore.specs.Classes.{PlainClass}
 use Rattle.cml_explore.specs.Explored.{PlainExplored}
 use Rattle.cml_explore.specs.Ranks.{AreInRank}
+use Rattle.cml_explore.specs.Stops.{IsLastStop}
 use Rattle.cml_explore.specs.Told.{IsClassTold, AreClassesTold, last_seed, IsToldOfRuns}
 
 -- the number of one class more
@@ -33,9 +34,14 @@ all_so (Err e) places p asked classes numbers slice ranked same are each = tt
 
 pub runs_so : (p : List (PlainItem ℕ)) (asked : Asked) (made : PlainExplored) (places all : List (List Place)) (classes : List PlainClass) (told : RunsTold)
     → places ≡ all → classes ≡ made.classes → told.runs ≡ made.runs → told.first ≡ asked.first → told.last ≡ last_seed asked.first told.runs → told.orders ≡ asked.orders
+    → told.asked ≡ asked.runs → told.servers.items ≡ asked.servers.now → told.until.items ≡ asked.until.now → IsLastStop p asked told.runs told.stop
     → AreClassesTold places p asked classes told.classes.items → IsToldOfRuns all p asked made told
-runs_so p asked made places all classes told at same runs first last orders are = record {
+runs_so p asked made places all classes told at same runs first last orders count servers until stop are = record {
   runs_are = runs;
+  asked_are = count;
+  servers_are = servers;
+  until_are = until;
+  stop_is = subst (λ (n : ℕ). IsLastStop p asked n told.stop) runs stop;
   first_is = first;
   last_is = last ∙ ap (last_seed asked.first) runs;
   orders_are = orders;

@@ -5,6 +5,7 @@ pub mod Explored
 pub mod Merges
 pub mod Sights
 pub mod Ranks
+pub mod Stops
 pub mod Told
 pub mod Ends
 pub mod Outcomes

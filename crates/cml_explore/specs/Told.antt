@@ -1,5 +1,5 @@
 -- What is told of many runs.
-use Rattle.std.specs.Prelude.{◌≡◌, ℕ, ◌+◌, ◌-◌, nat_le, if◌then◌else◌, Bool, true, false, List, map, length, count_by, Option, Some, None, slice_get}
+use Rattle.std.specs.Prelude.{◌≡◌, ℕ, ◌+◌, ◌-◌, ◌&&◌, nat_le, if◌then◌else◌, Bool, true, false, List, map, length, count_by, Option, Some, None, slice_get}
 use Rattle.std.specs.List.{All}
 use Rattle.cml_check.specs.Syntax.{PlainItem}
 use Rattle.cml_step.specs.Calls.{text_of}
@@ -8,6 +8,7 @@ use Rattle.cml_hub.specs.Deeds.{fault_count}
 use Rattle.cml_hub.specs.Kept.{Kept}
 use Rattle.cml_hub.specs.Runs.{ending}
 use Rattle.cml_phrase.specs.declared.place.Place.{Place}
+use Rattle.cml_ending.specs.Stuck.{is_server}
 use Rattle.cml_ending.specs.declared.standing.Spot.{Spot}
 use Rattle.cml_ending.specs.declared.left.Stands.TheVariants as standing
 use Rattle.cml_fault.specs.Falls.{PlainFall, AreFalls}
@@ -24,6 +25,7 @@ use Rattle.cml_explore.specs.Explored.{PlainExplored}
 use Rattle.cml_explore.specs.Finishes.{fate_of, is_good}
 use Rattle.cml_explore.specs.Orders.{seed_order}
 use Rattle.cml_explore.specs.Ranks.{AreInRank}
+use Rattle.cml_explore.specs.Stops.{IsLastStop}
 use Rattle.cml_explore.specs.Sights.{sight_of, AreSpotsToTell, threads_told}
 
 -- The threads that are left in a run, or ended at a fault in it, by number. A call that waits stands at a statement that has it wait; where there
@@ -44,6 +46,10 @@ abbrev pub is_run : ThreadState → Bool
 is_run (states.Stands (standing.Waits awaited)) = false
 is_run (states.Stands standing.Runs) = true
 is_run (states.AtFault reason) = false
+
+-- whether a thread that is left so may wait, where these are the functions of servers: it does, and began with one of them
+abbrev pub may_wait : List ℕ → ThreadLeft → Bool
+may_wait servers left = is_wait left.state && is_server servers left.thread.began
 
 -- What is told of the run of a hub: how it ended, how many threads wait, run and ended at a fault, and these threads.
 pub record IsRunTold (places : List (List Place)) (h : Kept) (told : RunTold) : Type 0 where
@@ -78,9 +84,14 @@ pub record AreClassesTold (places : List (List Place)) (p : List (PlainItem ℕ)
 abbrev pub last_seed : ℕ → ℕ → Option ℕ
 last_seed first runs = if nat_le runs 1 then None else Some (first + (runs - 1))
 
--- What is told of the runs that were asked for, of which these were made: how many there are, by which seeds, in which orders, and their classes.
+-- What is told of the runs that were asked for, of which these were made: how many there are, and were asked for; the functions of servers; at which
+-- runs to stop, and whether the last is one; by which seeds, in which orders, and their classes.
 pub record IsToldOfRuns (places : List (List Place)) (p : List (PlainItem ℕ)) (asked : Asked) (made : PlainExplored) (told : RunsTold) : Type 0 where
   pub runs_are : told.runs ≡ made.runs
+  pub asked_are : told.asked ≡ asked.runs
+  pub servers_are : told.servers.items ≡ asked.servers.now
+  pub until_are : told.until.items ≡ asked.until.now
+  pub stop_is : IsLastStop p asked made.runs told.stop
   pub first_is : told.first ≡ asked.first
   pub last_is : told.last ≡ last_seed asked.first made.runs
   pub orders_are : told.orders ≡ asked.orders

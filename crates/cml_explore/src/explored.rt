@@ -74,7 +74,7 @@ pub(crate) fn is_well(fate: Fate) -> bool
 }
 
 // Whether a run of this fate is one at which this says to stop.
-fn stops_at(until: Until, fate: Fate) -> bool
+pub(crate) fn stops_at(until: Until, fate: Fate) -> bool
     ensures { result ≡ spec.stops_at until fate }
 {
     match until {

@@ -10,6 +10,7 @@ use crate::classes::Classes;
 use crate::explored::{Asked, Explored, is_well};
 use crate::finish::fate_of;
 use crate::sight::{Sighted, spots_of};
+use crate::stop::last_stop;
 use crate::told::{ClassTold, RunTold, RunsTold, ThreadLeft, ThreadState};
 use cml_check::Prog;
 use cml_ending::{Stands, let_go};
@@ -51,7 +52,7 @@ fn threads_told(
 }
 
 // Whether the thread waits.
-fn is_waiting(thread: &ThreadLeft) -> bool
+pub(crate) fn is_waiting(thread: &ThreadLeft) -> bool
     ensures { result ≡ spec.is_wait thread.now.state }
 {
     matches!(thread.state, ThreadState::Stands(Stands::Waits(_)))
@@ -185,8 +186,9 @@ fn last_seed(first: u64, runs: u64) -> Option<u64>
     }
 }
 
-/// What is told of the runs that were asked for: how many, and the classes of those that ended alike, by size and then by first seed, each with
-/// the threads that are left in its first run, or ended at a fault in it, for which that is made once more. The script has this text and forms,
+/// What is told of the runs that were asked for: how many; whether the last is one at which to stop, where that is said, for which it is made once
+/// more; and the classes of those that ended alike, by size and then by first seed, each with the threads that are left in its first run, or ended
+/// at a fault in it, for which that is made once more. The script has this text and forms,
 /// and is this program.
 ///
 /// # Errors
@@ -210,10 +212,17 @@ pub fn tell_runs(
         program,
         asked,
     };
-    let classes = script.all_told(made.classes())?;
     let runs = made.runs();
+    let stop = last_stop(alloc, program, &asked, runs)?;
+    let servers = Vec::from_slice(alloc, asked.servers)?;
+    let until = Vec::from_slice(alloc, asked.until)?;
+    let classes = script.all_told(made.classes())?;
     Ok(RunsTold {
         runs,
+        asked: asked.runs,
+        servers,
+        until,
+        stop,
         first: asked.first,
         last: last_seed(asked.first, runs),
         orders: asked.orders,

@@ -1,5 +1,6 @@
 //! What is told of many runs, as values.
 
+use crate::explored::Until;
 use crate::orders::Orders;
 use cml_ending::{Named, Stands};
 use cml_fault::Reason;
@@ -72,11 +73,30 @@ pub struct ClassTold {
     pub run: RunTold,
 }
 
+/// A run at which it was to stop.
+#[derive(Clone, Copy)]
+pub struct Stopped {
+    /// Its seed.
+    pub seed: u64,
+    /// What decided in it what happened next.
+    pub order: Order,
+    /// Of which kind it is, the first one of those that were said.
+    pub kind: Until,
+}
+
 /// What is told of many runs.
 #[derive(Drop)]
 pub struct RunsTold {
     /// How many there are.
     pub runs: u64,
+    /// How many were asked for.
+    pub asked: u64,
+    /// The numbers of the functions of servers.
+    pub servers: Vec<u32>,
+    /// The kinds of run at which to stop.
+    pub until: Vec<Until>,
+    /// The last run, if it is one at which to stop.
+    pub stop: Option<Stopped>,
     /// The seed of the first.
     pub first: u64,
     /// The seed of the last, where there are more than one.

@@ -1,8 +1,10 @@
 //! What is told of many runs, in words.
 
 use crate::ends::{EndTold, EndsTold};
+use crate::excuse::may_wait;
 use crate::fault_told::FaultTold;
 use crate::orders::Orders;
+use crate::stop_words::{push_count, push_stop};
 use crate::told::{ClassTold, RunTold, RunsTold, ThreadLeft, ThreadState};
 use cml_ending::{Stands, push_awaited, push_many, push_named, push_number};
 use cml_fault::push_reason;
@@ -139,8 +141,15 @@ fn push_outputs(
     }
 }
 
-// Appends the option by which `run` has this order, if it takes one.
-fn push_option(alloc: Global, out: &mut Vec<u8>, order: Order) -> Result<(), AllocError> {
+/// Appends the option by which `run` has this order, if it takes one.
+///
+/// # Errors
+/// Out of memory.
+pub(crate) fn push_option(
+    alloc: Global,
+    out: &mut Vec<u8>,
+    order: Order,
+) -> Result<(), AllocError> {
     match order {
         Order::Queue => Ok(()),
         Order::Lot => out.extend_from_slice(b" --turns"),
@@ -212,17 +221,21 @@ fn push_state(
     }
 }
 
-// Appends the line of a thread.
+// Appends the line of a thread, where these are the functions of servers.
 fn push_thread(
     alloc: Global,
     out: &mut Vec<u8>,
     forms: &[Sexpr],
+    servers: &[u32],
     left: &ThreadLeft,
 ) -> Result<(), AllocError> {
     out.extend_from_slice(b"       ")?;
     push_named(alloc, out, forms, &left.thread)?;
     push_position(alloc, out, left.place)?;
     push_state(alloc, out, forms, &left.state)?;
+    if may_wait(servers, left) {
+        out.extend_from_slice(b"; a server, which may wait")?;
+    }
     out.extend_from_slice(b"\n")
 }
 
@@ -231,10 +244,11 @@ fn push_threads(
     alloc: Global,
     out: &mut Vec<u8>,
     forms: &[Sexpr],
+    servers: &[u32],
     run: &RunTold,
 ) -> Result<(), AllocError> {
     for left in &run.threads {
-        push_thread(alloc, out, forms, left)?;
+        push_thread(alloc, out, forms, servers, left)?;
     }
     Ok(())
 }
@@ -244,13 +258,14 @@ fn push_class(
     alloc: Global,
     out: &mut Vec<u8>,
     forms: &[Sexpr],
+    servers: &[u32],
     widths: Widths,
     class: &ClassTold,
 ) -> Result<(), AllocError> {
     push_end(alloc, out, widths, class)?;
     push_outputs(alloc, out, widths.outputs, class.outputs)?;
     push_first(alloc, out, class)?;
-    push_threads(alloc, out, forms, &class.run)
+    push_threads(alloc, out, forms, servers, &class.run)
 }
 
 // One class more that is good, or not.
@@ -287,20 +302,23 @@ fn push_saved(
     }
 }
 
-// Appends the lines of all classes.
+// Appends the lines of all classes. Those that are saved are counted.
 fn push_classes(
     alloc: Global,
     out: &mut Vec<u8>,
     forms: &[Sexpr],
-    classes: &[ClassTold],
+    told: &RunsTold,
     save: Option<&str>,
 ) -> Result<(), AllocError> {
-    let widths = widths_of(alloc, classes)?;
+    let servers = told.servers.as_slice();
+    let widths = widths_of(alloc, told.classes.as_slice())?;
     let mut seen = Seen { bad: 0, good: 0 };
-    for class in classes {
-        push_class(alloc, out, forms, widths, class)?;
-        seen = and_one(seen, class.well);
-        push_saved(alloc, out, save, class.well, seen)?;
+    for class in &told.classes {
+        push_class(alloc, out, forms, servers, widths, class)?;
+        if told.saves(class) {
+            seen = and_one(seen, class.well);
+            push_saved(alloc, out, save, class.well, seen)?;
+        }
     }
     Ok(())
 }
@@ -370,8 +388,9 @@ fn push_seeds(alloc: Global, out: &mut Vec<u8>, told: &RunsTold) -> Result<(), A
 }
 
 /// Appends what is told of many runs of the script that has this name and forms: how many runs, and the classes of those that ended alike, each
-/// with the threads that are left in its first run or ended at a fault in it; and last the verdict, and what it rests on. Where a schedule of each
-/// class is saved in a file whose name begins so, the file is named below its class.
+/// with the threads that are left in its first run or ended at a fault in it; which run is the first at which to stop, or that none is, where it was
+/// said at which; and last the verdict, and what it rests on. Where schedules are saved in files whose names begin so, each file is named below its
+/// class.
 ///
 /// # Errors
 /// Out of memory.
@@ -383,14 +402,15 @@ pub fn write_runs(
     told: &RunsTold,
     save: Option<&str>,
 ) -> Result<(), AllocError> {
-    push_many(alloc, out, " run", " runs", told.runs)?;
+    push_count(alloc, out, told)?;
     out.extend_from_slice(b" of ")?;
     out.extend_from_slice(name.as_bytes())?;
     push_seeds(alloc, out, told)?;
     out.extend_from_slice(b",")?;
     push_orders(alloc, out, told.orders)?;
     out.extend_from_slice(b"\n")?;
-    push_classes(alloc, out, forms, told.classes.as_slice(), save)?;
+    push_classes(alloc, out, forms, told, save)?;
+    push_stop(alloc, out, told, save.is_some())?;
     push_verdict(alloc, out, told)
 }
 
@@ -417,7 +437,7 @@ fn push_told(
     out.extend_from_slice(b"   shortest: ")?;
     push_many(alloc, out, " item", " items", end.items as u64)?;
     out.extend_from_slice(b"\n")?;
-    push_threads(alloc, out, forms, &end.run)
+    push_threads(alloc, out, forms, &[], &end.run)
 }
 
 /// Appends what is told of the ends of the script that has these forms: the classes of those that ended alike, each with the threads that are

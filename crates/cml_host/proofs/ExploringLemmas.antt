@@ -1,5 +1,5 @@
 -- What was shown of many runs, and what is saved of them, one thing after another.
-use Rattle.std.proofs.Common.{◌≡◌, ◌∙◌, ◌+◌, ◌<◌, ◌≤◌, ◌++◌, ◌∷◌, [], ℕ, suc, Bool, true, false, List, Option, Some, get_or, map, take, drop}
+use Rattle.std.proofs.Common.{◌≡◌, ◌∙◌, ◌+◌, ◌<◌, ◌≤◌, ◌++◌, ◌∷◌, [], ℕ, suc, Bool, true, false, List, Option, Some, get_or, filter, map, take, drop}
 use Rattle.std.proofs.Common.{length, refl, sym, ap, add-one, add-zero, append-nil, append_assoc, arith}
 use Rattle.std.specs.Prelude.{Result, Ok, Err, IfOk, slice_get}
 use Rattle.std.specs.List.{All}
@@ -110,32 +110,54 @@ told_one start budget p classes seen told own place items c (Ok f) by_name by_pl
     made ∙ same_file budget p own (start_of start told.well) place (seen_of seen told.well) items (shortest_of classes told.number) by_name by_place shortest
 told_one start budget p classes seen told own place items c (Err e) by_name by_place there is made = tt
 
-files_on : (start : Name) (budget : ℕ) (p : List (PlainItem ℕ)) (classes : List PlainClass) (seen : Seen) (told : List ClassTold) (i : ℕ) (c d : ClassTold) → i < length told → c ≡ get_or told i d
-    → files_behind start budget p classes seen (drop i told)
-    ≡ file_told start budget p classes (and_one seen c.well) c ∷ files_behind start budget p classes (and_one seen c.well) (drop (i + 1) told)
-files_on start budget p classes seen told i c d within is =
-    let rest : ClassTold → ℕ → List File = λ x n.
-    file_told start budget p classes (and_one seen x.well) x ∷ files_behind start budget p classes (and_one seen x.well) (drop n told) in
-    ap (files_behind start budget p classes seen) (drop-cons told i d within) ∙ (ap (λ (x : ClassTold). rest x (suc i)) (sym is) ∙ ap (rest c) (sym (add-one i)))
+-- the classes that are saved of those from one on: it is, or it is not
+saved_on : (s : ClassTold → Bool) (told : List ClassTold) (i : ℕ) (c d : ClassTold) → i < length told → c ≡ get_or told i d
+    → filter s (drop i told) ≡ filter s (c ∷ drop (i + 1) told)
+saved_on s told i c d within is =
+    ap (filter s) (drop-cons told i d within)
+    ∙ (ap (λ (x : ClassTold). filter s (x ∷ drop (suc i) told)) (sym is) ∙ ap (λ (n : ℕ). filter s (c ∷ drop n told)) (sym (add-one i)))
+
+saved_first : (s : ClassTold → Bool) (c : ClassTold) (cs : List ClassTold) → s c ≡ true → filter s (c ∷ cs) ≡ c ∷ filter s cs
+saved_first s c cs yes = rw yes refl
+
+unsaved_first : (s : ClassTold → Bool) (c : ClassTold) (cs : List ClassTold) → s c ≡ false → filter s (c ∷ cs) ≡ filter s cs
+unsaved_first s c cs no = rw no refl
+
+files_on : (s : ClassTold → Bool) (start : Name) (budget : ℕ) (p : List (PlainItem ℕ)) (classes : List PlainClass) (seen : Seen) (told : List ClassTold) (i : ℕ) (c d : ClassTold)
+    → i < length told → c ≡ get_or told i d → s c ≡ true
+    → files_behind start budget p classes seen (filter s (drop i told))
+    ≡ file_told start budget p classes (and_one seen c.well) c ∷ files_behind start budget p classes (and_one seen c.well) (filter s (drop (i + 1) told))
+files_on s start budget p classes seen told i c d within is yes =
+    ap (files_behind start budget p classes seen) (saved_on s told i c d within is ∙ saved_first s c (drop (i + 1) told) yes)
 
 -- one file more
-pub told_next : (start : Name) (budget : ℕ) (p : List (PlainItem ℕ)) (classes : List PlainClass) (seen : Seen) (told : List ClassTold) (i : ℕ) (c d : ClassTold)
-    (files : List code.File) (f : code.File) (all : List code.File) (whole : List File) → i < length told → c ≡ get_or told i d
+pub told_next : (s : ClassTold → Bool) (start : Name) (budget : ℕ) (p : List (PlainItem ℕ)) (classes : List PlainClass) (seen : Seen) (told : List ClassTold) (i : ℕ) (c d : ClassTold)
+    (files : List code.File) (f : code.File) (all : List code.File) (whole : List File) → i < length told → c ≡ get_or told i d → s c ≡ true
     → plain_file f ≡ file_told start budget p classes (and_one seen c.well) c → all ≡ files ++ f ∷ []
-    → map plain_file files ++ files_behind start budget p classes seen (drop i told) ≡ whole
-    → map plain_file all ++ files_behind start budget p classes (and_one seen c.well) (drop (i + 1) told) ≡ whole
-told_next start budget p classes seen told i c d files f all whole within is made more so_far =
-    let rest : List File = files_behind start budget p classes (and_one seen c.well) (drop (i + 1) told) in
+    → map plain_file files ++ files_behind start budget p classes seen (filter s (drop i told)) ≡ whole
+    → map plain_file all ++ files_behind start budget p classes (and_one seen c.well) (filter s (drop (i + 1) told)) ≡ whole
+told_next s start budget p classes seen told i c d files f all whole within is yes made more so_far =
+    let rest : List File = files_behind start budget p classes (and_one seen c.well) (filter s (drop (i + 1) told)) in
     ap (λ (xs : List code.File). map plain_file xs ++ rest) more ∙ (ap (λ (xs : List File). xs ++ rest) (map-append plain_file files (f ∷ []))
     ∙ (append_assoc (map plain_file files) (plain_file f ∷ []) rest ∙ (ap (λ (g : File). map plain_file files ++ g ∷ rest) made
-    ∙ (ap (λ (xs : List File). map plain_file files ++ xs) (sym (files_on start budget p classes seen told i c d within is)) ∙ so_far))))
+    ∙ (ap (λ (xs : List File). map plain_file files ++ xs) (sym (files_on s start budget p classes seen told i c d within is yes)) ∙ so_far))))
+
+-- one class that is not saved
+pub told_past : (s : ClassTold → Bool) (start : Name) (budget : ℕ) (p : List (PlainItem ℕ)) (classes : List PlainClass) (seen : Seen) (told : List ClassTold) (i : ℕ) (c d : ClassTold)
+    (files whole : List File) → i < length told → c ≡ get_or told i d → s c ≡ false
+    → files ++ files_behind start budget p classes seen (filter s (drop i told)) ≡ whole
+    → files ++ files_behind start budget p classes seen (filter s (drop (i + 1) told)) ≡ whole
+told_past s start budget p classes seen told i c d files whole within is no so_far =
+    ap (λ (cs : List ClassTold). files ++ files_behind start budget p classes seen cs)
+    (sym (saved_on s told i c d within is ∙ unsaved_first s c (drop (i + 1) told) no)) ∙ so_far
 
 -- no more of them
-pub told_all : (start : Name) (budget : ℕ) (p : List (PlainItem ℕ)) (classes : List PlainClass) (seen : Seen) (told : List ClassTold) (i : ℕ) (files : List code.File) (whole : List File)
-    → length told ≤ i → map plain_file files ++ files_behind start budget p classes seen (drop i told) ≡ whole → map plain_file files ≡ whole
-told_all start budget p classes seen told i files whole past so_far =
+pub told_all : (s : ClassTold → Bool) (start : Name) (budget : ℕ) (p : List (PlainItem ℕ)) (classes : List PlainClass) (seen : Seen) (told : List ClassTold) (i : ℕ)
+    (files : List code.File) (whole : List File) → length told ≤ i
+    → map plain_file files ++ files_behind start budget p classes seen (filter s (drop i told)) ≡ whole → map plain_file files ≡ whole
+told_all s start budget p classes seen told i files whole past so_far =
     sym (append-nil (map plain_file files))
-    ∙ (ap (λ (xs : List File). map plain_file files ++ xs) (sym (ap (files_behind start budget p classes seen) (drop_all i told past))) ∙ so_far)
+    ∙ (ap (λ (cs : List ClassTold). map plain_file files ++ files_behind start budget p classes seen (filter s cs)) (sym (drop_all i told past)) ∙ so_far)
 
 -- one class more
 pub seen_few : (seen : Seen) (well : Bool) (i : ℕ) → seen.bad ≤ i → seen.good ≤ i → ((and_one seen well).bad ≤ i + 1) × ((and_one seen well).good ≤ i + 1)

@@ -1,5 +1,5 @@
 -- The command `explore`: what is told of many runs of a script, what is shown meanwhile, and what is saved of them.
-use Rattle.std.specs.Prelude.{◌≡◌, ◌⊎◌, ℕ, suc, ◌+◌, ◌*◌, ◌/◌, Bool, true, false, if◌then◌else◌, List, [], ◌∷◌, map, Option, Some, None, option_map, slice_get}
+use Rattle.std.specs.Prelude.{◌≡◌, ◌⊎◌, ℕ, suc, ◌+◌, ◌*◌, ◌/◌, Bool, true, false, if◌then◌else◌, List, [], ◌∷◌, filter, map, Option, Some, None, option_map, slice_get}
 use Rattle.std.specs.List.{flat_map}
 use Rattle.std.specs.Fmt.{decimal}
 use Rattle.std.specs.Option.{option_map_or}
@@ -7,6 +7,7 @@ use Rattle.cml_check.specs.Sizes.{size_of}
 use Rattle.cml_check.specs.Syntax.{Name, PlainItem}
 use Rattle.cml_explore.specs.Classes.{PlainClass}
 use Rattle.cml_explore.specs.Explored.{PlainExplored, IsExplored}
+use Rattle.cml_explore.specs.Stops.{is_saved}
 use Rattle.cml_explore.specs.Told.{IsToldOfRuns}
 use Rattle.cml_explore.specs.declared.explored.Asked.{Asked}
 use Rattle.cml_explore.specs.declared.explored.Until.{Until}
@@ -120,10 +121,10 @@ files_behind start budget p classes seen (c ∷ cs) =
 abbrev pub none_seen : Seen
 none_seen = record { bad = 0; good = 0 }
 
--- the files that the arguments ask for: one for each class, in the order in which they are told
-abbrev pub files_told : Option Name → ℕ → List (PlainItem ℕ) → List PlainClass → List ClassTold → List File
+-- the files that the arguments ask for: one for each class that is saved, in the order in which they are told
+abbrev pub files_told : Option Name → ℕ → List (PlainItem ℕ) → List PlainClass → RunsTold → List File
 files_told None budget p classes told = []
-files_told (Some start) budget p classes told = files_behind start budget p classes none_seen told
+files_told (Some start) budget p classes told = files_behind start budget p classes none_seen (filter (is_saved told) told.classes.items)
 
 -- the status where these runs ended well, or not
 abbrev pub judged : Bool → ℕ
@@ -138,7 +139,7 @@ saved_start options = option_map (λ start. start.now) options.save
 abbrev pub TellsRuns : Option Name → ℕ → PlainScript → Asked → PlainExplored → PlainReply → Type 0
 TellsRuns start budget s asked made reply =
     ((told : RunsTold) × IsToldOfRuns (all_places s.text s.forms) s.program asked made told
-    × (reply.files ≡ files_told start budget s.program made.classes told.classes.items))
+    × (reply.files ≡ files_told start budget s.program made.classes told))
     × (reply.words ≡ []) × (reply.status ≡ judged made.well)
 
 -- the runs that the arguments ask for were made, and are told of; or memory ran out

@@ -1,6 +1,6 @@
 //! The command `explore`: a script runs many times, and it is told how the runs end.
 
-ghost use Rattle.std.specs.{Prelude.{◌≡◌, [], ◌+◌, ◌++◌, ◌-◌, ◌≤◌, ◌<◌, ◌^◌, IfOk, IfErr, IfSome, OnErr, OnOk, length, map, option_map, true}, Fmt.{decimal}};
+ghost use Rattle.std.specs.{Prelude.{◌≡◌, [], ◌+◌, ◌++◌, ◌-◌, ◌≤◌, ◌<◌, ◌^◌, IfOk, IfErr, IfSome, OnErr, OnOk, filter, length, map, option_map, true}, Fmt.{decimal}};
 ghost use Rattle.std.specs.{List.{All}, String.{string_bytes}};
 ghost use Rattle.cml_check.specs.Sizes.{size_of};
 ghost use Rattle.cml_explore.specs.Explored.{HasMade, IsExplored, SoFar};
@@ -13,7 +13,7 @@ ghost use Rattle.cml_hub.specs.Kept.{IsBudget};
 ghost use Rattle.cml_schedule.specs.Written.{schedule_text};
 ghost use Rattle.cml_stream.specs.{Counts.{counted}, Streams.{stream}};
 ghost use Rattle.cml_arguments.specs.Words.{IsDepth, IsRuns, saved_name, start_of, until_named};
-ghost use Rattle.cml_explore.specs.Told.{IsToldOfRuns};
+ghost use Rattle.cml_explore.specs.{Stops.{is_saved}, Told.{IsToldOfRuns}};
 ghost use Rattle.cml_phrase.specs.Spots.{all_places};
 
 use crate::explain::Halt;
@@ -425,7 +425,6 @@ fn told_made(
 {
     let told = told_of(alloc, script, asked, made)?;
     let output = words_of(alloc, script, options, &told)?;
-    let classes = told.classes.as_slice();
     let program = &script.program;
     let files = asked_files(
         alloc,
@@ -433,7 +432,7 @@ fn told_made(
         options.steps,
         options.save,
         made.classes(),
-        classes,
+        &told,
     )?;
     drop(told);
     Ok(Reply {
@@ -480,42 +479,49 @@ fn judge(made: &Explored) -> u8
     if made.is_well() { 0 } else { UNWELL }
 }
 
-// A file for each class, in the order in which they are told, where that is asked for.
+// A file for each class that is saved, in the order in which they are told, where that is asked for.
 fn asked_files(
     alloc: Global,
     program: &Prog,
     budget: u64,
     start: Option<&str>,
     classes: &Classes,
-    told: &[ClassTold],
+    told: &RunsTold,
 ) -> Result<Vec<File>, AllocError>
-    requires below { All (λ c. c.number < length classes.now) told.now }
+    requires below { All (λ c. c.number < length classes.now) told.now.classes.items }
     ensures { IfOk result (λ files. map plain_file files.items ≡ files_told (option_map (λ start. start.now) start.entry) budget program.now classes.now told.now) }
 {
     match start {
-        Some(start) => told_files(alloc, program, budget, start, classes, told),
+        Some(start) => {
+            let each = told.classes.as_slice();
+            told_files(alloc, program, budget, start, classes, told, each)
+        }
         None => Ok(Vec::new(alloc)),
     }
 }
 
-// A file for each class.
+// A file for each of these classes that is saved.
 fn told_files(
     alloc: Global,
     program: &Prog,
     budget: u64,
     start: &str,
     classes: &Classes,
+    runs: &RunsTold,
     told: &[ClassTold],
 ) -> Result<Vec<File>, AllocError>
     requires below { All (λ c. c.number < length classes.now) told.now }
-    ensures { IfOk result (λ files. map plain_file files.items ≡ files_behind start.now budget program.now classes.now none_seen told.now) }
+    ensures { IfOk result (λ files. map plain_file files.items
+        ≡ files_behind start.now budget program.now classes.now none_seen (filter (is_saved runs.now) told.now)) }
 {
     let mut files = Vec::new(alloc);
     let mut seen = Seen { bad: 0, good: 0 };
     for class in told {
-        seen = and_one(seen, class.well);
-        let file = told_file(alloc, program, budget, start, classes, class, seen)?;
-        files.push(file)?;
+        if runs.saves(class) {
+            seen = and_one(seen, class.well);
+            let file = told_file(alloc, program, budget, start, classes, class, seen)?;
+            files.push(file)?;
+        }
     }
     Ok(files)
 }

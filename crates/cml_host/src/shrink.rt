@@ -16,7 +16,7 @@ use cml_arguments::ShrinkOptions;
 use cml_check::Prog;
 use cml_hub::{Item, Plan};
 use cml_schedule::schedule_text;
-use cml_shrink::{ShrinkFault, counts_of, push_counts, shrink};
+use cml_shrink::{ShrinkFault, Shrunk, shrink, tell_shrunk, write_shrunk};
 use std::alloc::{AllocError, Global};
 
 /// A shorter schedule of the script that lies under its name for the one that lies under its own, which ends alike; and how long both are.
@@ -51,7 +51,7 @@ fn shrink_plan(alloc: Global, both: Opened<'_>, tries: u64) -> Result<Reply, Ref
     let items = plan.items.as_slice();
     match shrink(alloc, &program, plan.budget, items, tries) {
         Ok(found) => {
-            let shorter = make_shorter(alloc, &program, plan.budget, items, found.items());
+            let shorter = make_shorter(alloc, &program, plan.budget, items, &found, tries);
             drop(program);
             Ok(shorter?)
         }
@@ -73,20 +73,21 @@ fn shrink_plan(alloc: Global, both: Opened<'_>, tries: u64) -> Result<Reply, Ref
     }
 }
 
-// What is told of these items, which were found for those.
+// What is told of what was found for these items, where there might be so many tries.
 fn make_shorter(
     alloc: Global,
     program: &Prog,
     budget: u64,
-    old: &[Item],
-    new: &[Item],
+    given: &[Item],
+    found: &Shrunk,
+    tries: u64,
 ) -> Result<Reply, AllocError>
-    ensures schedule { IfOk result (λ reply. reply.output.items ≡ schedule_text budget (size_of program.now) new.now) }
+    ensures schedule { IfOk result (λ reply. reply.output.items ≡ schedule_text budget (size_of program.now) found.now.items) }
     ensures alone { IfOk result (λ reply. (reply.files.items ≡ []) × (reply.status ≡ 0)) }
 {
-    let schedule = schedule_text(alloc, budget, program.size(), new)?;
+    let schedule = schedule_text(alloc, budget, program.size(), found.items())?;
     let mut words = Vec::new(alloc);
-    push_counts(alloc, &mut words, counts_of(old), counts_of(new))?;
+    write_shrunk(alloc, &mut words, tell_shrunk(given, found, tries))?;
     Ok(Reply {
         output: schedule.into_bytes(),
         files: Vec::new(alloc),

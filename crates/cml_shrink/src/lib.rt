@@ -9,6 +9,6 @@ mod replay;
 mod search;
 mod shrunk;
 
-pub use counts::{Counts, counts_of, push_counts};
+pub use counts::{Counts, ShrunkTold, counts_of, push_counts, tell_shrunk, write_shrunk};
 pub use fault::ShrinkFault;
 pub use shrunk::{Shrunk, shrink};

@@ -11,13 +11,12 @@ pub asked_files-requires : goal.asked_files-requires
 asked_files-requires c =
     let below = told_below _ c.args.script.now.program c.args.asked.now c.args.made.now c.in_ok-told.told c.in_ok-told.ensures in
     record {
-      below = subst (λ (cs : List PlainClass). All (λ (x : ClassTold). x.number < length cs) c.as_slice-classes.result.now) (search rules)
-          (subst (λ (ts : List ClassTold). All (λ (x : ClassTold). x.number < length c.args.made.now.classes) ts) (search rules) below);
+      below = subst (λ (cs : List PlainClass). All (λ (x : ClassTold). x.number < length cs) c.in_ok-told.told.classes.items) (search rules) below;
     }
 
 pub returns : goal.returns
 returns c =
     let s = c.args.script.now in
     let options = c.args.options.now in
-    let files : map plain_file c.in_ok-files.files.items ≡ files_told (saved_start options) options.steps s.program c.args.made.now.classes c.in_ok-told.told.classes.items = search rules in
+    let files : map plain_file c.in_ok-files.files.items ≡ files_told (saved_start options) options.steps s.program c.args.made.now.classes c.in_ok-told.told = search rules in
     ((c.in_ok-told.told, c.in_ok-told.ensures, files), search rules, c.judge.ensures)
