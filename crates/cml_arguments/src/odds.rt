@@ -2,7 +2,7 @@
 
 ghost use Rattle.std.specs.{Prelude.{◌≡◌, ◌↔◌, ◌<◌, ◌-◌, false, true, is_some, option_map, IfOk, IsTrue, List, MatchOption, Some, ℕ}, Char.{is_ascii_digit}};
 ghost use Rattle.std.specs.{List.{list_all, list_any}, String.{string_bytes}};
-ghost use Rattle.cml_arguments.specs.Words.{saved_end, saved_name, start_of, AreOdds, Clash, DepthOdds, DrawnOdds, ExplainsLive, ExploreOdds, KindsOdds, LastOdds, OrderOdds, OverOdds, OverRecord, PassesTheLast, PicksOdds, ReplacedOdds, Replaces, RunOdds, SaveOdds, SavedOdds, SavesOver, SeedsOdds, StepOdds, ToldOdds, TraceOdds, TurnsOdds, UntilOdds, VerifyOdds, WatchOdds, WorkersOdds};
+ghost use Rattle.cml_arguments.specs.Words.{saved_end, saved_name, start_of, AreOdds, Clash, DepthOdds, DrawnOdds, ExplainsLive, ExploreOdds, KindsOdds, LastOdds, OrderOdds, OverOdds, OverRecord, PassesTheLast, PicksOdds, ReplacedOdds, Replaces, RunOdds, SaveOdds, SavedOdds, SavesOver, SeedsOdds, StepOdds, StopOdds, StopWatchOdds, ToldOdds, TraceOdds, TurnsOdds, UntilOdds, VerifyOdds, WatchOdds, WorkersOdds};
 ghost use Rattle.cml_arguments.specs.Words as spec;
 
 use crate::{
@@ -20,6 +20,7 @@ pub fn told_odds(alloc: Global, task: &Task<'_>) -> Result<Option<String>, Alloc
     match task {
         Task::Trace(options) => trace_odds(alloc, *options),
         Task::Run(options) => run_odds(alloc, options),
+        Task::Replay(options) => stop_watch_odds(alloc, options.stop, options.watch),
         Task::Explore(options) => explore_odds(alloc, options),
         Task::Verify(options) => verify_odds(alloc, options),
         Task::Step(options) => step_odds(alloc, *options),
@@ -107,7 +108,32 @@ fn watch_odds(alloc: Global, options: &RunOptions<'_>) -> Result<Option<String>,
 {
     let order = order_word(options.turns);
     let watch = options.watch.is_some();
-    clash(alloc, order, is_ordered(options), "--watch", watch)
+    match clash(alloc, order, is_ordered(options), "--watch", watch)? {
+        Some(told) => Ok(Some(told)),
+        None => stop_odds(alloc, options),
+    }
+}
+
+// And of its workers, where it is to stop.
+fn stop_odds(alloc: Global, options: &RunOptions<'_>) -> Result<Option<String>, AllocError>
+    ensures { IfOk result (λ told. ToldOdds (StopOdds options.now) (option_map (λ text. string_bytes text) told)) }
+{
+    let many = options.workers > 1;
+    match clash(alloc, "--stop", options.stop, "--workers", many)? {
+        Some(told) => Ok(Some(told)),
+        None => stop_watch_odds(alloc, options.stop, options.watch),
+    }
+}
+
+// And of the reports of a run that is to stop.
+fn stop_watch_odds(
+    alloc: Global,
+    stop: bool,
+    watch: Option<u64>,
+) -> Result<Option<String>, AllocError>
+    ensures { IfOk result (λ told. ToldOdds (StopWatchOdds stop watch) (option_map (λ text. string_bytes text) told)) }
+{
+    clash(alloc, "--stop", stop, "--watch", watch.is_some())
 }
 
 // Whether the order of the turns of a run is said.

@@ -11,4 +11,5 @@ mod shrunk;
 
 pub use counts::{Counts, counts_of, push_counts};
 pub use fault::ShrinkFault;
+pub use replay::Asked;
 pub use shrunk::{Shrunk, shrink};
