@@ -118,8 +118,8 @@ fn watch_odds(alloc: Global, options: &RunOptions<'_>) -> Result<Option<String>,
 fn stop_odds(alloc: Global, options: &RunOptions<'_>) -> Result<Option<String>, AllocError>
     ensures { IfOk result (λ told. ToldOdds (StopOdds options.now) (option_map (λ text. string_bytes text) told)) }
 {
-    let many = options.workers > 1;
-    match clash(alloc, "--stop", options.stop, "--workers", many)? {
+    let several = 1 < options.workers;
+    match clash(alloc, "--stop", options.stop, "--workers", several)? {
         Some(told) => Ok(Some(told)),
         None => stop_watch_odds(alloc, options.stop, options.watch),
     }

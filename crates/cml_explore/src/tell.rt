@@ -120,11 +120,7 @@ fn teller_of(hub: &Hub, spot: Option<Spot>) -> Result<Option<Named>, AllocError>
 }
 
 // What is told of the properties that the run of this hub breaks.
-fn each_break_told(
-    alloc: Global,
-    hub: &Hub,
-    breaks: &[Break],
-) -> Result<Vec<BreakTold>, AllocError>
+fn each_break_told(alloc: Global, hub: &Hub, breaks: &[Break]) -> Result<Vec<BreakTold>, AllocError>
     ensures { IfOk result (λ told. AreEachBreakTold hub.now breaks.now told.items) }
 {
     let mut told = Vec::new(alloc);

@@ -240,7 +240,7 @@ fn push_threads(
     Ok(())
 }
 
-// Appends where a property breaks: ` at item 12: line 4, printed by thread 2 (consumer)`.
+// Appends where a property breaks: `line 4, printed by thread 2 consumer() at item 12`.
 fn push_spot(
     alloc: Global,
     out: &mut Vec<u8>,
@@ -249,17 +249,14 @@ fn push_spot(
     spot: Spot,
     who: Option<&Named>,
 ) -> Result<(), AllocError> {
-    out.extend_from_slice(b" at item ")?;
-    push_number(alloc, out, spot.item as u64)?;
-    out.extend_from_slice(b": line ")?;
+    out.extend_from_slice(b"line ")?;
     push_number(alloc, out, (line as u64).saturating_add(1))?;
-    match who {
-        Some(who) => {
-            out.extend_from_slice(b", printed by ")?;
-            push_named(alloc, out, forms, who)
-        }
-        None => Ok(()),
+    if let Some(who) = who {
+        out.extend_from_slice(b", printed by ")?;
+        push_named(alloc, out, forms, who)?;
     }
+    out.extend_from_slice(b" at item ")?;
+    push_number(alloc, out, spot.item as u64)
 }
 
 // Appends the line of a property that the first run of a class breaks.
@@ -273,11 +270,11 @@ fn push_break(
     let Some(property) = properties.get(told.one.property) else {
         return Ok(());
     };
-    let begun = format!(in alloc; "       breaks {property}")?;
+    let begun = format!(in alloc; "       breaks {property}: ")?;
     out.extend_from_slice(begun.as_bytes())?;
     match told.one.spot {
         Some(spot) => push_spot(alloc, out, forms, told.one.line, spot, told.who.as_ref())?,
-        None => out.extend_from_slice(b" at its end")?,
+        None => out.extend_from_slice(b"at its end")?,
     }
     out.extend_from_slice(b"\n")
 }
@@ -460,14 +457,7 @@ pub fn write_runs(
     out.extend_from_slice(b",")?;
     push_orders(alloc, out, told.orders)?;
     out.extend_from_slice(b"\n")?;
-    push_classes(
-        alloc,
-        out,
-        forms,
-        properties,
-        told.classes.as_slice(),
-        save,
-    )?;
+    push_classes(alloc, out, forms, properties, told.classes.as_slice(), save)?;
     push_verdict(alloc, out, properties.len(), told)
 }
 

@@ -1,15 +1,17 @@
 -- How a run is closed that has come to its end: with which status.
-use Rattle.std.specs.Prelude.{◌≡◌, ◌&&◌, ◌||◌, not, ℕ, Bool, true, false, if◌then◌else◌, List, [], ◌∷◌, Option, Some, None, is_some}
+use Rattle.std.specs.Prelude.{◌≡◌, ◌&&◌, ◌||◌, not, nat_lt, ℕ, Bool, true, false, if◌then◌else◌, List, [], ◌∷◌, Option, Some, None, is_some}
 use Rattle.cml_check.specs.Sizes.{size_of}
 use Rattle.cml_check.specs.Syntax.{PlainItem}
 use Rattle.cml_ending.specs.Stuck.{is_stuck}
 use Rattle.cml_hub.specs.Courses.{run_of}
+use Rattle.cml_hub.specs.Deeds.{fault_count}
 use Rattle.cml_hub.specs.Kept.{Kept}
 use Rattle.cml_hub.specs.Runs.{Run, ending}
 use Rattle.cml_judge.specs.Judgements.{IsJudgedAlone, is_kept}
 use Rattle.cml_properties.specs.declared.property.Property.{Property}
 use Rattle.cml_schedule.specs.Written.{schedule_text}
 use Rattle.cml_schedule.specs.declared.item.Item.{Item}
+use Rattle.cml_step.specs.Calls.{text_of}
 use Rattle.cml_host.specs.Replies.{File, PlainReply, file}
 use Rattle.cml_host.specs.Told.{end_status, whole_output}
 use Rattle.cml_host.specs.declared.close.Asked.{Asked}
@@ -29,10 +31,15 @@ abbrev pub is_asked : {A : Type 0} → List A → Bool
 is_asked [] = false
 is_asked (a ∷ as) = true
 
--- The status: 6 where a property is broken, or where it is judged strictly and is stuck, which is where nothing is left to do and a thread waits
--- that is no server, or a thread ended at a fault; else that of its end.
+-- the run is to stop where a thread ends at a fault, and one has
+abbrev pub has_fallen : PlainAsked → Kept → Bool
+has_fallen asked h = asked.stops && nat_lt 0 (fault_count (text_of h.course.program) h.course.items)
+
+-- The status: 6 where a property is broken, where the run stops at a fault, or where it is judged strictly and is stuck, which is where nothing is
+-- left to do and a thread waits that is no server, or a thread ended at a fault; else that of its end.
 abbrev pub closing_status : PlainAsked → Kept → Bool → ℕ
-closing_status asked h kept = if not kept || (asked.strict && is_stuck asked.servers h) then 6 else end_status (ending h.budget (run_of h.course))
+closing_status asked h kept =
+    if not kept || (has_fallen asked h || (asked.strict && is_stuck asked.servers h)) then 6 else end_status (ending h.budget (run_of h.course))
 
 -- a hub of this program, under this budget, that these items have led to where this run stands
 pub record IsHubAt (p : List (PlainItem ℕ)) (budget : ℕ) (items : List Item) (r : Run) (h : Kept) : Type 0 where

@@ -63,7 +63,7 @@ fn push_spot(
     push_number(alloc, out, spot.item as u64)
 }
 
-// Appends the line of a property that is broken: `broken: never (pair "violated" _): line 4, printed by thread 2 (consumer) at item 31`.
+// Appends the line of a property that is broken: `breaks never (pair "violated" _): line 4, printed by thread 2 consumer() at item 31`.
 fn push_broken(
     alloc: Global,
     out: &mut Vec<u8>,
@@ -72,12 +72,12 @@ fn push_broken(
     hub: &Hub,
     one: &Break,
 ) -> Result<(), AllocError> {
-    out.extend_from_slice(b"broken: ")?;
+    out.extend_from_slice(b"breaks ")?;
     push_property(alloc, out, properties, one.property)?;
     out.extend_from_slice(b": ")?;
     match one.spot {
         Some(spot) => push_spot(alloc, out, forms, hub, one.line, spot)?,
-        None => out.extend_from_slice(b"at the end of the run")?,
+        None => out.extend_from_slice(b"at its end")?,
     }
     out.extend_from_slice(b"\n")
 }
@@ -136,14 +136,14 @@ fn push_verdict(
         out.extend_from_slice(b"bad: ")?;
         push_number(alloc, out, broken as u64)?;
         out.extend_from_slice(b" of ")?;
-        push_many(alloc, out, " property is", " properties are", count as u64)?;
+        push_many(alloc, out, " property", " properties", count as u64)?;
         return out.extend_from_slice(b" broken\n");
     }
     match end {
         End::Quiet => out.extend_from_slice(b"good: ")?,
         End::Budget | End::Partial => out.extend_from_slice(b"good so far: ")?,
     }
-    push_many(alloc, out, " property is", " properties are", count as u64)?;
+    push_many(alloc, out, " property", " properties", count as u64)?;
     out.extend_from_slice(b" kept\n")
 }
 

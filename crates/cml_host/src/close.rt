@@ -200,7 +200,8 @@ fn push_faults(
 fn closing_status(hub: &Hub, asked: &Asked<'_>, kept: bool) -> u8
     ensures { result ≡ closed.closing_status (plain_asked asked.now) hub.now kept }
 {
-    if !kept || (asked.strict && is_stuck(hub, asked.servers.as_slice())) {
+    let fell = asked.stops && hub.faults() > 0;
+    if !kept || fell || (asked.strict && is_stuck(hub, asked.servers.as_slice())) {
         UNWELL
     } else {
         end_status(hub.end())

@@ -1,6 +1,6 @@
 //! What must hold of runs, as the arguments give it.
 
-ghost use Rattle.std.specs.Prelude.{◌≡◌, ◌++◌, IfErr, IfOk, List, OnOk, map, option_map};
+ghost use Rattle.std.specs.Prelude.{◌≡◌, ◌++◌, ◌∷◌, [], IfErr, IfOk, List, OnOk, map, option_map};
 ghost use Rattle.cml_host.specs.{Refused.{IsExplained, RefusesAs}, Stores.{IsUnchanged}};
 ghost use Rattle.cml_host.specs.Wanted.{AreGiven, AreWanted, FileSays, FileSaysNone, IsNoPattern, IsUnwanted, property_if};
 ghost use Rattle.cml_properties.specs.declared.property.Property.{Property};
@@ -76,9 +76,16 @@ fn push_given(
 {
     for text in texts {
         let property = given(alloc, kind, text, explains)?;
-        found.push(property)?;
+        push_one(found, property)?;
     }
     Ok(())
+}
+
+// Appends a property.
+fn push_one(found: &mut Vec<Property>, property: Property) -> Result<(), AllocError>
+    ensures { OnOk result (found.new.items ≡ found.old.items ++ property ∷ []) }
+{
+    Ok(found.push(property)?)
 }
 
 // The property of one kind that this text gives.
@@ -142,7 +149,7 @@ fn push_file<S: Store>(
         Some(name) => {
             let more = read_file(alloc, name, explains, store)?;
             for property in more {
-                found.push(property)?;
+                push_one(found, property)?;
             }
             Ok(())
         }

@@ -20,12 +20,7 @@ pub struct Break {
 }
 
 // That the property of this number breaks at this line.
-fn break_of(
-    alloc: Global,
-    hub: &Hub,
-    property: usize,
-    line: usize,
-) -> Result<Break, AllocError>
+fn break_of(alloc: Global, hub: &Hub, property: usize, line: usize) -> Result<Break, AllocError>
     ensures { IfOk result (IsBreak hub.now property line) }
 {
     let spot = spot_of(alloc, hub, line)?;

@@ -92,11 +92,7 @@ fn thread_of(items: &[Item], number: usize) -> Option<Tid>
 ///
 /// # Errors
 /// Out of memory.
-pub(crate) fn spot_of(
-    alloc: Global,
-    hub: &Hub,
-    number: usize,
-) -> Result<Option<Spot>, AllocError>
+pub(crate) fn spot_of(alloc: Global, hub: &Hub, number: usize) -> Result<Option<Spot>, AllocError>
     ensures { IfOk result (IsSpotOf hub.now number) }
 {
     let Some(at) = start_of(hub.out().as_bytes(), number) else {
