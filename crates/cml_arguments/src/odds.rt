@@ -6,7 +6,8 @@ ghost use Rattle.cml_arguments.specs.Words.{saved_end, saved_name, start_of, Are
 ghost use Rattle.cml_arguments.specs.Words as spec;
 
 use crate::{
-    Explain, ExploreOptions, ReplayOptions, RunOptions, StepOptions, Task, TraceOptions, Until, VerifyOptions,
+    Explain, ExploreOptions, ReplayOptions, RunOptions, StepOptions, Task, TraceOptions, Until,
+    VerifyOptions,
 };
 use std::alloc::{AllocError, Global};
 

@@ -5,7 +5,7 @@ use Rattle.cml_check.specs.Syntax.{PlainItem}
 use Rattle.cml_explore.specs.declared.explored.Asked.{Asked}
 use Rattle.cml_explore.specs.declared.explored.Until.{Until}
 use Rattle.cml_hub.specs.Kept.{Kept}
-use Rattle.cml_seed.specs.SeedRuns.{IsSeedRun}
+use Rattle.cml_explore.specs.SeedRuns.{IsSeedRun}
 use Rattle.cml_explore.specs.Orders.{seed_order}
 use Rattle.cml_explore.specs.Classes.{PlainClass, classed, classes_of}
 use Rattle.cml_explore.specs.Finishes.{PlainEnded, is_well, stops, EachEnds}

@@ -4,13 +4,13 @@ use Rattle.std.specs.List.{All}
 use Rattle.cml_check.specs.Syntax.{PlainItem}
 use Rattle.cml_schedule.specs.declared.item.Item.{Item}
 use Rattle.cml_hub.specs.Kept.{Kept}
-use Rattle.cml_fault.specs.declared.detail.Detail.{Detail}
+use Rattle.cml_facts.specs.declared.fault.detail.Detail.{Detail}
 use Rattle.cml_explore.specs.declared.explored.Asked.{Asked}
-use Rattle.cml_fault.specs.Details.{alike}
+use Rattle.cml_facts.specs.Details.{alike}
 use Rattle.cml_judge.specs.Judgements.{AreDetailsWith}
 use Rattle.cml_judge.specs.declared.judged.Wanted.{Wanted}
 use Rattle.cml_explore.specs.Classes.{PlainClass}
-use Rattle.cml_seed.specs.SeedRuns.{IsSeedRun}
+use Rattle.cml_explore.specs.SeedRuns.{IsSeedRun}
 use Rattle.cml_explore.specs.Explored.{PlainExplored, IsExplored}
 use Rattle.cml_explore.specs.Finishes.{PlainEnded, IsEndOf, is_well}
 use Rattle.cml_explore.specs.Orders.{seed_order}

@@ -8,17 +8,17 @@ use Rattle.cml_hub.specs.Deeds.{fault_count, origins}
 use Rattle.cml_hub.specs.Kept.{Kept}
 use Rattle.cml_hub.specs.Runs.{ending}
 use Rattle.cml_phrase.specs.declared.place.Place.{Place}
-use Rattle.cml_ending.specs.Stuck.{is_server}
-use Rattle.cml_ending.specs.Waits.{who_is}
-use Rattle.cml_ending.specs.declared.awaited.Named.{Named}
-use Rattle.cml_ending.specs.declared.standing.Spot.{Spot}
-use Rattle.cml_ending.specs.declared.left.Stands.TheVariants as standing
-use Rattle.cml_fault.specs.Falls.{PlainFall, AreFalls}
+use Rattle.cml_facts.specs.Stuck.{is_server}
+use Rattle.cml_facts.specs.Waits.{who_is}
+use Rattle.cml_facts.specs.declared.ending.awaited.Named.{Named}
+use Rattle.cml_facts.specs.declared.ending.standing.Spot.{Spot}
+use Rattle.cml_facts.specs.declared.ending.left.Stands.TheVariants as standing
+use Rattle.cml_facts.specs.Falls.{PlainFall, AreFalls}
 use Rattle.cml_judge.specs.Judgements.{IsJudgedAt, is_kept}
 use Rattle.cml_judge.specs.Spots.{AreBreaksFrom}
 use Rattle.cml_judge.specs.declared.breaks.Break.{Break}
 use Rattle.cml_judge.specs.declared.spot.Spot as printed
-use Rattle.cml_seed.specs.SeedRuns.{IsSeedRun}
+use Rattle.cml_explore.specs.SeedRuns.{IsSeedRun}
 use Rattle.cml_explore.specs.declared.explored.Asked.{Asked}
 use Rattle.cml_explore.specs.declared.told.BreakTold.{BreakTold}
 use Rattle.cml_explore.specs.declared.told.ClassTold.{ClassTold}

@@ -5,7 +5,7 @@ ghost use Rattle.cml_judge.specs.Judgements.{is_kept};
 ghost use Rattle.sha2.specs.Sha256.{sha256};
 ghost use Rattle.cml_explore.specs.Finishes as spec;
 
-use cml_ending::some_held_up;
+use cml_facts::ending::some_held_up;
 use cml_hub::{End, Hub};
 use cml_judge::are_all_kept;
 use sha2::{Digest, Sha256};

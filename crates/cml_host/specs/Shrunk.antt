@@ -6,8 +6,8 @@ use Rattle.cml_schedule.specs.Plans.{PlainPlan}
 use Rattle.cml_schedule.specs.Written.{schedule_text}
 use Rattle.cml_judge.specs.Stops.{StopsAt}
 use Rattle.cml_properties.specs.declared.property.Property.{Property}
-use Rattle.cml_shrink.specs.Shrinking.{PlainShrunk, IsShrunk}
-use Rattle.cml_shrink.specs.declared.replay.Asked.{Asked}
+use Rattle.cml_explore.specs.Shrinking.{PlainShrunk, IsShrunk}
+use Rattle.cml_explore.specs.declared.shrink.replay.Asked.{Asked}
 use Rattle.cml_step.specs.Calls.{text_of}
 use Rattle.cml_text.specs.Lines.{line}
 use Rattle.cml_arguments.specs.declared.ShrinkOptions.{ShrinkOptions}

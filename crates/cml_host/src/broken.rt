@@ -2,10 +2,10 @@
 
 use crate::close::Subject;
 use crate::tell::let_go;
-use cml_ending::{begin_again, push_many, push_named, push_number, who_is};
+use cml_facts::ending::{begin_again, push_many, push_named, push_number, who_is};
+use cml_facts::narrative::{Narrator, push_happened};
 use cml_hub::{End, Hub};
 use cml_judge::{Break, Spot, breaks_of};
-use cml_narrative::{Narrator, push_happened};
 use cml_properties::Property;
 use cml_text::Sexpr;
 use std::alloc::{AllocError, Global};

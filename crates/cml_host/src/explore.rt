@@ -221,9 +221,7 @@ fn explore_beside<R: Threads + Sync, E: Write>(
 fn some_compare(properties: &[Property]) -> bool
     ensures { result ≡ list_any spec.compares properties.now }
 {
-    properties
-        .iter()
-        .any(|one| matches!(one, Property::SameLines | Property::SameOrder))
+    properties.iter().any(|one| matches!(one, Property::SameLines | Property::SameOrder))
 }
 
 // What the arguments ask for, where the functions of servers have these numbers.

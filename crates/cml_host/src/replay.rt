@@ -73,9 +73,7 @@ fn replay_wanted<O: Write, E: Write, S: Store>(
     ensures same_err { err.new.stream.ghost_name ≡ err.old.stream.ghost_name }
 {
     match find_properties(alloc, &options.properties, ALONE, explains, store) {
-        Ok(wanted) => replay_script(
-            alloc, script, wanted, options, explains, out, err, store,
-        ),
+        Ok(wanted) => replay_script(alloc, script, wanted, options, explains, out, err, store),
         Err(why) => {
             drop(script);
             carry_out(alloc, "", &Err(why), out, err, store)

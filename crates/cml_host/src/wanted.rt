@@ -11,7 +11,7 @@ use crate::source::TEXT_LIMIT;
 use crate::store::Store;
 use cml_arguments::PropertyOptions;
 use cml_explain::explain_text;
-use cml_place::{Diagnosis, render};
+use cml_phrase::{Diagnosis, render};
 use cml_properties::{
     Property, PropertyFault, PropertyFaultKind, PropertyKind, properties, property_from,
 };
@@ -19,6 +19,7 @@ use std::alloc::{AllocError, Global};
 
 // The status where an option has no pattern, and where a file has no property.
 const NO_PATTERN: u8 = 1;
+
 const NO_PROPERTY: u8 = 2;
 
 /// Whether runs must print alike.
@@ -52,10 +53,34 @@ pub fn find_properties<S: Store>(
     ensures same { IsUnchanged (S.holds store.old) (S.holds store.new) }
 {
     let mut found = Vec::new(alloc);
-    push_given(alloc, &mut found, PropertyKind::Never, options.never.as_slice(), explains)?;
-    push_given(alloc, &mut found, PropertyKind::Always, options.always.as_slice(), explains)?;
-    push_given(alloc, &mut found, PropertyKind::Once, options.once.as_slice(), explains)?;
-    push_given(alloc, &mut found, PropertyKind::Before, options.before.as_slice(), explains)?;
+    push_given(
+        alloc,
+        &mut found,
+        PropertyKind::Never,
+        options.never.as_slice(),
+        explains,
+    )?;
+    push_given(
+        alloc,
+        &mut found,
+        PropertyKind::Always,
+        options.always.as_slice(),
+        explains,
+    )?;
+    push_given(
+        alloc,
+        &mut found,
+        PropertyKind::Once,
+        options.once.as_slice(),
+        explains,
+    )?;
+    push_given(
+        alloc,
+        &mut found,
+        PropertyKind::Before,
+        options.before.as_slice(),
+        explains,
+    )?;
     push_if(&mut found, alike.lines, Property::SameLines)?;
     push_if(&mut found, alike.order, Property::SameOrder)?;
     push_if(&mut found, options.empty, Property::Empty)?;

@@ -3,9 +3,9 @@ use Rattle.std.specs.Prelude.{◌≡◌, ℕ, suc, Bool, List, [], ◌∷◌, �
 use Rattle.std.specs.List.{list_all}
 use Rattle.cml_text.specs.Lines.{lines}
 use Rattle.cml_hub.specs.Kept.{Kept}
-use Rattle.cml_fault.specs.declared.detail.Detail.{Detail}
-use Rattle.cml_fault.specs.declared.detail.Detail.TheVariants.{Breaks}
-use Rattle.cml_fault.specs.Details.{AreDetails, AreFallenDetails}
+use Rattle.cml_facts.specs.declared.fault.detail.Detail.{Detail}
+use Rattle.cml_facts.specs.declared.fault.detail.Detail.TheVariants.{Breaks}
+use Rattle.cml_facts.specs.Details.{AreDetails, AreFallenDetails}
 use Rattle.cml_properties.specs.declared.breach.Run.{Run}
 use Rattle.cml_properties.specs.Judged.{AreJudged}
 use Rattle.cml_properties.specs.declared.property.Property.{Property}

@@ -1,12 +1,12 @@
 //! The details by which two runs ended alike, with the properties that they break.
 
 ghost use Rattle.std.specs.Prelude.{◌≡◌, ◌++◌, ◌∷◌, [], IfOk, List, MatchBool, OnOk};
-ghost use Rattle.cml_fault.specs.Details.{AreDetails, AreFallenDetails};
-ghost use Rattle.cml_fault.specs.declared.detail.Detail.{Detail};
+ghost use Rattle.cml_facts.specs.Details.{AreDetails, AreFallenDetails};
+ghost use Rattle.cml_facts.specs.declared.fault.detail.Detail.{Detail};
 ghost use Rattle.cml_judge.specs.Judgements as spec;
 
 use crate::judged::judge_alone;
-use cml_fault::{Detail, details_of, fallen_details_of};
+use cml_facts::fault::{Detail, details_of, fallen_details_of};
 use cml_hub::Hub;
 use cml_properties::Property;
 use std::alloc::{AllocError, Global};

@@ -1,13 +1,13 @@
 //! By which item of a run a line was printed.
 
 ghost use Rattle.std.specs.Prelude.{◌≡◌, ◌<◌, ◌≤◌, ◌+◌, suc, ℕ, IfOk, MatchOption, length, take};
-ghost use Rattle.cml_ending.specs.Again.{RunsAgain};
+ghost use Rattle.cml_facts.specs.Again.{RunsAgain};
 ghost use Rattle.cml_judge.specs.Spots.{IsPrintedBy, IsSpotOf, IsTurnOf};
 ghost use Rattle.cml_judge.specs.Spots as spec;
 ghost use Rattle.cml_step.specs.Calls.{text_of};
 ghost use Rattle.cml_text.specs.Lines as text;
 
-use cml_ending::{begin_again, come, let_go};
+use cml_facts::ending::{begin_again, come, let_go};
 use cml_hub::{Hub, Item};
 use cml_text::Lines;
 use cml_value::Tid;

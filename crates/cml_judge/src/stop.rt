@@ -1,12 +1,12 @@
 //! Where a run is stopped.
 
 ghost use Rattle.std.specs.Prelude.{◌≡◌, ◌≤◌, IfOk, length};
-ghost use Rattle.cml_ending.specs.Again.{RunsAgain};
+ghost use Rattle.cml_facts.specs.Again.{RunsAgain};
 ghost use Rattle.cml_judge.specs.Stops.{IsStopped, StopsAt};
 ghost use Rattle.cml_step.specs.Calls.{text_of};
 
 use crate::watched::Watched;
-use cml_ending::{begin_again, come, let_go};
+use cml_facts::ending::{begin_again, come, let_go};
 use cml_hub::Hub;
 use cml_properties::Property;
 use std::alloc::{AllocError, Global};
@@ -53,12 +53,7 @@ pub fn stop_of(
 }
 
 // The first items of the hub's schedule come in the second hub.
-fn follow_first(
-    alloc: Global,
-    hub: &Hub,
-    second: &mut Hub,
-    count: usize,
-) -> Result<(), AllocError>
+fn follow_first(alloc: Global, hub: &Hub, second: &mut Hub, count: usize) -> Result<(), AllocError>
     requires begun { RunsAgain hub.now second.old 0 }
     requires there { count ≤ length hub.now.course.items }
 {
