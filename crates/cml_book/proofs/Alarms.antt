@@ -12,7 +12,7 @@ use Rattle.cml_scan.specs.Light.{light}
 use Rattle.cml_scan.specs.Table.{has_light}
 use Rattle.cml_scan.specs.declared.object.Light.{Light}
 use Rattle.cml_scan.specs.declared.object.Light.TheVariants as of
-use Rattle.cml_signal.specs.Clocks.{PlainClock, LightsTick}
+use Rattle.cml_objects.specs.Clocks.{PlainClock, LightsTick}
 use Rattle.cml_scan.specs.World.{PlainThread, pending_from}
 use Rattle.cml_book.specs.Clock.{bases_awaited}
 use Rattle.cml_book.specs.Keeping.{lights_in, times_awaited, Counts}

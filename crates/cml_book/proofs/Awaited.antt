@@ -13,7 +13,7 @@ use Rattle.cml_value.specs.Value.{PlainBase, at_tick}
 use Rattle.cml_value.specs.Group.{PlainGroup, PlainLeaf, bases, leaves, leaf_count}
 use Rattle.cml_group.specs.LaidOut.{max_leaves}
 use Rattle.cml_group.specs.Leaves.{leaf_base}
-use Rattle.cml_signal.specs.Clocks.{PlainClock, leaves_at, IsWaited}
+use Rattle.cml_objects.specs.Clocks.{PlainClock, leaves_at, IsWaited}
 use Rattle.cml_scan.specs.World.{PlainThread, running, pending_on, ended, PlainEntry, pending_from}
 use Rattle.cml_book.specs.Clock.{bases_awaited}
 use Rattle.cml_book.specs.Keeping.{awaits_tick, times_awaited, Counts}

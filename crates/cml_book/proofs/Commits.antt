@@ -15,7 +15,7 @@ use Rattle.cml_value.specs.declared.number.Tid.{Tid}
 use Rattle.cml_group.specs.Leaves.{pick, leaf_base}
 use Rattle.cml_scan.specs.World.{PlainThread, running, pending_on, ended, PlainWorld, PlainEntry, pending, pending_from}
 use Rattle.cml_scan.specs.Light.{light, has_item, lit}
-use Rattle.cml_channel.specs.Handed.{handed}
+use Rattle.cml_objects.specs.Handed.{handed}
 use Rattle.cml_scan.specs.Scan.{scan, scan_of, has_row, is_among, meets, do_meet}
 use Rattle.cml_scan.specs.Table.{IsThere, without, has_light, lit_after, nacks_among, IsNackOf}
 use Rattle.cml_scan.specs.Enabled.{leaf_of}

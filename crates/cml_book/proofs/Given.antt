@@ -3,7 +3,7 @@ use Rattle.std.proofs.Common.{◌≡◌, ℕ, List, [], ◌∷◌, map, refl, ap
 use Rattle.std.specs.Prelude.{slice_get, slice_set}
 use Rattle.std.specs.Option.{option_map_or}
 use Rattle.cml_value.specs.Value.{PlainValue}
-use Rattle.cml_base.specs.Registered.{given_at}
+use Rattle.cml_objects.specs.Registered.{given_at}
 use Rattle.cml_scan.specs.World.{PlainWorld}
 
 pub map_same : {X : Type 0} (xs : List X) → map (λ x. x) xs ≡ xs

@@ -10,7 +10,7 @@ use Rattle.cml_value.specs.Group.{PlainGroup, PlainScope, scopes, nacks_of, lies
 use Rattle.cml_scan.specs.World.{PlainThread, running, pending_on, ended, PlainNack, fresh_of, live, fired, held, PlainWorld, pending_from}
 use Rattle.cml_scan.specs.Light.{has_fired}
 use Rattle.cml_value.specs.declared.number.Tid.{Tid}
-use Rattle.cml_signal.specs.NackCell.{owner_of, is_live_nack, is_fired}
+use Rattle.cml_objects.specs.NackCell.{owner_of, is_live_nack, is_fired}
 use Rattle.cml_book.specs.Sync.{times_named, with_each, is_fresh_for, can_enter}
 use Rattle.cml_book.specs.Commit.{settled}
 use Rattle.cml_book.specs.Keeping.{pending_nacks, lives, AreLiveNacks, AreFresh, is_fresh}

@@ -15,12 +15,12 @@ use Rattle.cml_scan.specs.Light.{is_full, has_item, light_of}
 use Rattle.cml_scan.specs.Table.{without, lit_after, AgreeFor}
 use Rattle.cml_scan.specs.declared.object.Light.{Light}
 use Rattle.cml_scan.specs.declared.object.Light.TheVariants as of
-use Rattle.cml_base.specs.Feeds.{PlainRefusal, IsAccepted}
-use Rattle.cml_base.specs.Feeds as of_feed
-use Rattle.cml_queues.specs.PlainQueue.{PlainQueue}
-use Rattle.cml_queues.specs.Queues.{queued, is_at_limit, is_filled, is_full_at, added_at}
-use Rattle.cml_base.specs.Registered.{fed_at, lit_at, put_back}
-use Rattle.cml_syncvar.specs.Variables.{put_into}
+use Rattle.cml_objects.specs.Feeds.{PlainRefusal, IsAccepted}
+use Rattle.cml_objects.specs.Feeds as of_feed
+use Rattle.cml_objects.specs.PlainQueue.{PlainQueue}
+use Rattle.cml_objects.specs.Queues.{queued, is_at_limit, is_filled, is_full_at, added_at}
+use Rattle.cml_objects.specs.Registered.{fed_at, lit_at, put_back}
+use Rattle.cml_objects.specs.Variables.{put_into}
 use Rattle.cml_value.specs.Limits.{value_fits}
 use Rattle.cml_book.specs.Put.{iput, mput}
 use Rattle.cml_book.specs.Mail.{mail}

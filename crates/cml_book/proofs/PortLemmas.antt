@@ -7,9 +7,9 @@ use Rattle.std.proofs.lemmas.List.{length-map}
 use Rattle.std.proofs.lemmas.Bool.Decides.{nat_tests}
 use Rattle.cml_value.specs.declared.number.PortId.{PortId}
 use Rattle.cml_value.specs.declared.number.McastId.{McastId}
-use Rattle.cml_base.specs.Registered.{HasRoomAt}
-use Rattle.cml_queues.specs.PlainMulticast.{PlainMulticast}
-use Rattle.cml_queues.specs.Posts.{port_numbers}
+use Rattle.cml_objects.specs.Registered.{HasRoomAt}
+use Rattle.cml_objects.specs.PlainMulticast.{PlainMulticast}
+use Rattle.cml_objects.specs.Posts.{port_numbers}
 use Rattle.cml_book.specs.MakePort.{ports_at, has_port, with_port, heard_by}
 use Rattle.cml_book.specs.Homes.{is_home, channel_numbers, HaveHomes, ArePorts, AreBelow, has_room}
 use Rattle.cml_book.specs.Views.{ports_of}

@@ -8,11 +8,11 @@ use Rattle.cml_value.specs.Limits.{value_fits}
 use Rattle.cml_value.specs.declared.number.PortId.{PortId}
 use Rattle.cml_value.specs.declared.number.McastId.{McastId}
 use Rattle.cml_scan.specs.World.{PlainWorld}
-use Rattle.cml_queues.specs.PlainQueue.{PlainQueue}
-use Rattle.cml_queues.specs.PlainMulticast.{PlainMulticast}
-use Rattle.cml_queues.specs.Posts.{any_is_full, posted, says_full}
-use Rattle.cml_queues.specs.declared.delivery.PostFault.{PostFault}
-use Rattle.cml_queues.specs.declared.delivery.PostFault.TheVariants as post
+use Rattle.cml_objects.specs.PlainQueue.{PlainQueue}
+use Rattle.cml_objects.specs.PlainMulticast.{PlainMulticast}
+use Rattle.cml_objects.specs.Posts.{any_is_full, posted, says_full}
+use Rattle.cml_objects.specs.declared.delivery.PostFault.{PostFault}
+use Rattle.cml_objects.specs.declared.delivery.PostFault.TheVariants as post
 use Rattle.cml_book.specs.Outcomes.{Does, max_objects}
 use Rattle.cml_book.specs.MakePort.{ports_at, with_port, copy_port}
 use Rattle.cml_book.specs.Multicast.{multicast, fault_of_post}

@@ -9,8 +9,8 @@ use Rattle.cml_scan.specs.Light.{has_item, light_of}
 use Rattle.cml_scan.specs.Table.{lit_after, has_light, same_light}
 use Rattle.cml_scan.specs.declared.object.Light.{Light}
 use Rattle.cml_scan.specs.declared.object.Light.TheVariants as of
-use Rattle.cml_queues.specs.Queues.{added_at}
-use Rattle.cml_queues.specs.Posts.{posted}
+use Rattle.cml_objects.specs.Queues.{added_at}
+use Rattle.cml_objects.specs.Posts.{posted}
 use Rattle.cml_book.specs.MakePort.{has_port}
 use Rattle.cml_book.specs.Homes.{port_light, first_lights}
 use Rattle.cml_book.specs.Telling.{newly_lit, StaysTrue}

@@ -8,8 +8,8 @@ use Rattle.cml_value.specs.Value.{PlainBase}
 use Rattle.cml_value.specs.declared.number.Tid.{Tid}
 use Rattle.cml_scan.specs.World.{PlainThread, running, pending_on, ended, PlainWorld}
 use Rattle.cml_value.specs.Limits.{value_fits}
-use Rattle.cml_queues.specs.Queues.{is_full_at}
-use Rattle.cml_queues.specs.Posts.{any_is_full}
+use Rattle.cml_objects.specs.Queues.{is_full_at}
+use Rattle.cml_objects.specs.Posts.{any_is_full}
 use Rattle.cml_scan.specs.Light.{lit, is_full}
 use Rattle.cml_scan.specs.Scan.{scan, has_row}
 use Rattle.cml_scan.specs.Order.{is_lit_there, meet_at}

@@ -2,7 +2,7 @@
 use Rattle.std.specs.Prelude.{ℕ, Bool, true, false, not, List, [], ◌∷◌, Option, Some, None, Ok, slice_get, slice_set}
 use Rattle.cml_value.specs.Value.{PlainValue, PlainFunction, unit, PlainBase, always, iget, mtake, mget, mswap, mail_recv, port_recv}
 use Rattle.cml_value.specs.Group.{PlainGroup, never, PlainLeaf, leaves, scopes, nacks_of, lost}
-use Rattle.cml_channel.specs.Handed.{handed}
+use Rattle.cml_objects.specs.Handed.{handed}
 use Rattle.cml_scan.specs.World.{PlainThread, running, pending_on, PlainNack, fired, held, PlainWorld}
 use Rattle.cml_scan.specs.Scan.{scan, has_row}
 use Rattle.cml_scan.specs.declared.meet.Meet.{Meet}

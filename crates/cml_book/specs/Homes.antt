@@ -3,9 +3,9 @@ use Rattle.std.specs.Prelude.{ℕ, ◌≡◌, ◌==◌, ◌<◌, ◌≤◌, ◌+
 use Rattle.cml_value.specs.Value.{PlainValue}
 use Rattle.cml_value.specs.declared.number.McastId.{McastId}
 use Rattle.cml_value.specs.declared.number.PortId.{PortId}
-use Rattle.cml_base.specs.Registered.{Registered}
-use Rattle.cml_queues.specs.PlainMulticast.{PlainMulticast}
-use Rattle.cml_queues.specs.PlainQueue.{PlainQueue}
+use Rattle.cml_objects.specs.Registered.{Registered}
+use Rattle.cml_objects.specs.PlainMulticast.{PlainMulticast}
+use Rattle.cml_objects.specs.PlainQueue.{PlainQueue}
 use Rattle.cml_scan.specs.Light.{has_item}
 use Rattle.cml_scan.specs.declared.object.Light.{Light}
 use Rattle.cml_scan.specs.declared.object.Light.TheVariants as light

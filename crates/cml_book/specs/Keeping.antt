@@ -6,8 +6,8 @@ use Rattle.cml_group.specs.LaidOut.{max_leaves}
 use Rattle.cml_scan.specs.World.{PlainThread, PlainNack, fresh_of, live, PlainWorld, PlainEntry, pending, pending_from}
 use Rattle.cml_scan.specs.Table.{TellsLights}
 use Rattle.cml_value.specs.Value.{PlainBase, at_tick}
-use Rattle.cml_base.specs.Registered.{WaitingLeaf}
-use Rattle.cml_signal.specs.Clocks.{leaves_at}
+use Rattle.cml_objects.specs.Registered.{WaitingLeaf}
+use Rattle.cml_objects.specs.Clocks.{leaves_at}
 use Rattle.cml_scan.specs.Light.{light as light_seen}
 use Rattle.cml_scan.specs.declared.object.Light.{Light}
 use Rattle.cml_scan.specs.declared.object.Light.TheVariants as light

@@ -2,7 +2,7 @@
 use Rattle.std.specs.Prelude.{ℕ, not, length, nat_lt, Ok}
 use Rattle.cml_value.specs.Value.{PlainValue}
 use Rattle.cml_value.specs.Limits.{value_fits}
-use Rattle.cml_queues.specs.Queues.{is_full_at, added_at}
+use Rattle.cml_objects.specs.Queues.{is_full_at, added_at}
 use Rattle.cml_scan.specs.World.{PlainWorld}
 use Rattle.cml_book.specs.declared.refusal.Refusal.TheVariants.{Object, Deep, Full}
 use Rattle.cml_book.specs.Outcomes.{Outcome, refuse_if}

@@ -2,9 +2,9 @@
 use Rattle.std.specs.Prelude.{ℕ, not, length, nat_lt, Ok}
 use Rattle.cml_value.specs.Value.{PlainValue}
 use Rattle.cml_value.specs.Limits.{value_fits}
-use Rattle.cml_queues.specs.Posts.{any_is_full, posted}
-use Rattle.cml_queues.specs.declared.delivery.PostFault.{PostFault}
-use Rattle.cml_queues.specs.declared.delivery.PostFault.TheVariants as post
+use Rattle.cml_objects.specs.Posts.{any_is_full, posted}
+use Rattle.cml_objects.specs.declared.delivery.PostFault.{PostFault}
+use Rattle.cml_objects.specs.declared.delivery.PostFault.TheVariants as post
 use Rattle.cml_book.specs.declared.refusal.Fault.{Fault}
 use Rattle.cml_book.specs.declared.refusal.Fault.TheVariants.{Refused, Memory}
 use Rattle.cml_scan.specs.World.{PlainWorld}

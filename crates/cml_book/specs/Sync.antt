@@ -5,7 +5,7 @@ use Rattle.cml_value.specs.Value.{PlainBase, always, send, recv, swap, iget, mta
 use Rattle.cml_value.specs.Group.{PlainGroup, bases, leaf_count, scopes, nacks_of, group_fits}
 use Rattle.cml_group.specs.LaidOut.{max_leaves}
 use Rattle.cml_scan.specs.World.{pending_on, PlainNack, live, PlainWorld}
-use Rattle.cml_signal.specs.NackCell.{is_fresh_of}
+use Rattle.cml_objects.specs.NackCell.{is_fresh_of}
 use Rattle.cml_book.specs.declared.refusal.Refusal.{Refusal}
 use Rattle.cml_book.specs.declared.refusal.Refusal.TheVariants as refusal
 use Rattle.cml_book.specs.Entering.{entered, is_far}

@@ -1,8 +1,8 @@
 -- The view of a thread of a book, made from its one field, and the views of registers and of lists of objects.
 use Rattle.std.specs.Prelude.{ℕ, List, map}
 use Rattle.cml_value.specs.Value.{PlainValue}
-use Rattle.cml_queues.specs.PlainQueue.{PlainQueue}
-use Rattle.cml_queues.specs.PlainMulticast.{PlainMulticast}
+use Rattle.cml_objects.specs.PlainQueue.{PlainQueue}
+use Rattle.cml_objects.specs.PlainMulticast.{PlainMulticast}
 use Rattle.cml_scan.specs.World.{PlainThread, running, pending_on, ended}
 use Rattle.cml_book.specs.declared.thread.Doing.{Doing}
 use Rattle.cml_book.specs.declared.thread.Doing.TheVariants as doing

@@ -20,7 +20,7 @@ use crate::nacks::make_room;
 use crate::refusal::{Fault, Refusal};
 use crate::state::State;
 use crate::walk::MAX_TICK;
-use cml_channel::hands;
+use cml_objects::hands;
 use cml_scan::{Light, Lights, Meet, NackState, Table};
 use cml_value::{ChanId, Group, MboxId, McastId, NackId, PortId, SwapId, Tid, Value};
 use std::alloc::{AllocError, Global};

@@ -2,7 +2,7 @@
 
 ghost use Rattle.std.specs.{Prelude.{◌≡◌, true, ◌≤◌, ◌<◌, ◌+◌, ◌^◌, ◌++◌, ℕ, length, map, slice_get, Some, IfOk, OnOk, OnErr}, Vec.{vec_capacity}};
 ghost use Rattle.cml_value.specs.Group.{bases, leaf_count, scopes, lost};
-ghost use Rattle.cml_signal.specs.Clocks.{leaves_at};
+ghost use Rattle.cml_objects.specs.Clocks.{leaves_at};
 ghost use Rattle.cml_group.specs.{LaidOut.{max_leaves}, Leaves.{leaf_base}};
 ghost use Rattle.cml_book.specs.Keeping.{nack_light, times_awaited, has_no_tick, is_tickless, is_lightless};
 
@@ -10,8 +10,8 @@ use crate::nacks::push_lights;
 use crate::ticks::{count_ticks, leaves_for, uncount_ticks};
 use crate::walk::{BaseTest, all_bases};
 use cml_group::Flat;
+use cml_objects::Clock;
 use cml_scan::Light;
-use cml_signal::Clock;
 use cml_value::{Base, BaseKind, Group};
 use std::alloc::{AllocError, Global};
 use std::marker::Model;

@@ -1,10 +1,10 @@
 //! Objects whose lights are turned on when they are fed.
 
 ghost use Rattle.std.specs.Prelude.{◌≡◌, ◌<◌, length, map};
-ghost use Rattle.cml_base.specs.{Feeds.{IsAccepted}, Registered.{lit_at, fed_at}};
+ghost use Rattle.cml_objects.specs.{Feeds.{IsAccepted}, Registered.{lit_at, fed_at}};
 ghost use Rattle.cml_book.specs.{Feeding.{IsTaken}, Telling.{newly_lit, TurnsOn}};
 
-use cml_base::{FeedFault, Register, Source};
+use cml_objects::{FeedFault, Register, Source};
 use cml_scan::{Light, Table};
 use cml_value::Value;
 use std::alloc::{AllocError, Global};

@@ -5,11 +5,8 @@ ghost use Rattle.cml_scan.specs.{Light.{is_full, has_item}, Views.{nack_of}};
 ghost use Rattle.cml_scan.specs.Light as spec;
 ghost use Rattle.cml_book.specs.Views.{queues_of};
 
-use cml_base::{Register, Source};
-use cml_queues::{Mailbox, Port};
+use cml_objects::{IVar, MVar, Mailbox, NackCell, Port, Register, Source};
 use cml_scan::NackState;
-use cml_signal::NackCell;
-use cml_syncvar::{IVar, MVar};
 use cml_value::{IVarId, MVarId, MboxId, NackId, PortId};
 
 /// Whether there is such an I-variable, and it is full.

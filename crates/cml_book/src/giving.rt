@@ -2,14 +2,13 @@
 
 ghost use Rattle.std.specs.{Prelude.{◌≡◌, ◌≤◌, ◌+◌, ◌++◌, true, false, None, IsTrue, IsOk, IfOk, length, map, slice_get}, Option.{option_map_or}};
 ghost use Rattle.std.specs.Vec.{vec_capacity};
-ghost use Rattle.cml_base.specs.Registered.{lit_at};
+ghost use Rattle.cml_objects.specs.Registered.{lit_at};
 ghost use Rattle.cml_book.specs.{Commit.{copied, is_read}, Leaving.{can_give, turned_off}};
 ghost use Rattle.cml_book.specs.Commit as spec;
 
 use crate::state::State;
-use cml_base::{Register, Source};
+use cml_objects::{MVarWant, Register, Source};
 use cml_scan::Light;
-use cml_syncvar::MVarWant;
 use cml_value::{Base, BaseKind, Value, ValueKind};
 use std::alloc::AllocError;
 

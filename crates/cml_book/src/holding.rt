@@ -4,10 +4,8 @@ ghost use Rattle.std.specs.{Prelude.{◌≡◌, Some, None, IfSome, IfNone, leng
 ghost use Rattle.cml_book.specs.{Commit.{held_in}, Holding.{first_in, item_in, value_at}, Views.{queues_of, ports_of as all_ports_of}};
 
 use crate::state::State;
-use cml_base::Register;
-use cml_queues::{Mailbox, Multicast, Port};
+use cml_objects::{IVar, MVar, Mailbox, Multicast, Port, Register};
 use cml_scan::Light;
-use cml_syncvar::{IVar, MVar};
 use cml_value::{ChanId, IVarId, MVarId, MboxId, McastId, PortId, SwapId, Value};
 
 /// The number that the next object of each kind will have, if there is room for one.

@@ -7,10 +7,9 @@ ghost use Rattle.cml_group.specs.Leaves.{numbers};
 ghost use Rattle.cml_book.specs.{Commit.{settled}, Sync.{with_each}, Keeping.{nack_light, AreLiveNacks, AreFresh, is_fresh, FitsIn, RoomGrows}};
 
 use crate::counted::Counted;
-use cml_base::Register;
 use cml_group::Flat;
+use cml_objects::{NackCell, NackFeed, Register};
 use cml_scan::Light;
-use cml_signal::{NackCell, NackFeed};
 use cml_value::NackId;
 use std::alloc::AllocError;
 

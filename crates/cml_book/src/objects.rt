@@ -2,7 +2,7 @@
 
 ghost use Rattle.std.specs.Prelude.{◌≡◌, Bool, List};
 ghost use Rattle.cml_scan.specs.{World.{PlainEntry}, declared.object.Light.{Light}};
-ghost use Rattle.cml_queues.specs.Queues.{is_full_at};
+ghost use Rattle.cml_objects.specs.Queues.{is_full_at};
 ghost use Rattle.cml_book.specs.{Outcomes.{Does, DoesWith}, Telling.{StaysKept}, Views.{queues_of}};
 ghost use Rattle.cml_book.specs.MakeObjects as make_spec;
 ghost use Rattle.cml_book.specs.Put as put_spec;
@@ -13,10 +13,8 @@ use crate::feeding::{feed, tell_lit};
 use crate::fullness::{ivar_is_full, mvar_is_full};
 use crate::refusal::{Fault, Refusal, Returned};
 use crate::state::State;
-use cml_base::Register;
-use cml_queues::Mailbox;
+use cml_objects::{IVar, MVar, Mailbox, Register};
 use cml_scan::{Light, Table};
-use cml_syncvar::{IVar, MVar};
 use cml_value::{IVarId, MVarId, MboxId, Value};
 use std::alloc::Global;
 

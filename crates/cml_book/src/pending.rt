@@ -2,7 +2,7 @@
 
 ghost use Rattle.std.specs.{Prelude.{◌≡◌, ℕ, ◌<◌, ◌≤◌, ◌+◌, ◌^◌, Some, IsSome, OnOk, OnErr, slice_get, slice_set}, Option.{option_copied, option_and_then}};
 ghost use Rattle.cml_value.specs.Group.{bases, leaf_count, scopes, nacks_of, lost};
-ghost use Rattle.cml_signal.specs.Clocks.{leaves_at};
+ghost use Rattle.cml_objects.specs.Clocks.{leaves_at};
 ghost use Rattle.cml_group.specs.{LaidOut.{max_leaves}, Leaves.{pick, numbers}};
 ghost use Rattle.cml_scan.specs.World.{running, pending_on, live};
 ghost use Rattle.cml_book.specs.{Outcomes.{with_thread}, Sync.{with_each}, Commit.{awaited, group_awaited, released, settled}};
@@ -12,9 +12,8 @@ use crate::counted::Counted;
 use crate::nacks::{enter, settle};
 use crate::state::{State, put};
 use crate::thread::Thread;
-use cml_base::Register;
 use cml_group::{Chosen, Flat};
-use cml_signal::{Clock, NackCell};
+use cml_objects::{Clock, NackCell, Register};
 use cml_value::Tid;
 use std::alloc::AllocError;
 

@@ -2,8 +2,8 @@
 
 ghost use Rattle.std.specs.Prelude.{◌≡◌, ◌<◌, Bool, List, not, All, Some, length, IfOk, OnOk, OnErr};
 ghost use Rattle.cml_scan.specs.{World.{PlainEntry}, Light.{has_item}, declared.object.Light.{Light}};
-ghost use Rattle.cml_base.specs.Registered.{HasRoomAt};
-ghost use Rattle.cml_queues.specs.Posts.{port_numbers, unread, any_is_full, posted, says_full};
+ghost use Rattle.cml_objects.specs.Registered.{HasRoomAt};
+ghost use Rattle.cml_objects.specs.Posts.{port_numbers, unread, any_is_full, posted, says_full};
 ghost use Rattle.cml_book.specs.{Outcomes.{Does, DoesWith, max_objects}, MakeObjects.{make_mchan}, MakePort.{with_port}};
 ghost use Rattle.cml_book.specs.Telling.{StaysKept, TurnsOn, newly_lit};
 ghost use Rattle.cml_book.specs.{Homes.{AddsPort, ArePorts, AreBelow, StillFew, has_room, port_light, first_lights}, Views.{ports_of}};
@@ -15,8 +15,7 @@ use crate::feeding::tell_lit;
 use crate::fullness::port_has_item;
 use crate::refusal::{Fault, Refusal, Returned};
 use crate::state::State;
-use cml_base::{Register, Source};
-use cml_queues::{Multicast, Port, PostFault, deliver, prepare};
+use cml_objects::{Multicast, Port, PostFault, Register, Source, deliver, prepare};
 use cml_scan::{Light, Table};
 use cml_value::{McastId, PortId, Value};
 use std::alloc::{AllocError, Global};
@@ -90,7 +89,7 @@ impl State {
         let Some(original) = self.ports.get(port.0) else {
             unreachable!();
         };
-        let Ok(copy) = cml_queues::copy_port(alloc, original) else {
+        let Ok(copy) = cml_objects::copy_port(alloc, original) else {
             return Err(Fault::Memory);
         };
         let Ok(made) = add_port(

@@ -11,11 +11,8 @@ use crate::fullness::{has_fired, ivar_is_full, mailbox_has_item, mvar_is_full, p
 use crate::marks::NackMarks;
 use crate::refusal::{Fault, Refusal};
 use crate::thread::{Thread, pending_count, pending_threads};
-use cml_base::Register;
-use cml_queues::{Mailbox, Multicast, Port};
+use cml_objects::{Clock, IVar, MVar, Mailbox, Multicast, NackCell, Port, Register};
 use cml_scan::{Light, Lights};
-use cml_signal::{Clock, NackCell};
-use cml_syncvar::{IVar, MVar};
 use cml_value::{ChanId, McastId, NackId, SwapId, Tid};
 use std::alloc::{AllocError, Global};
 use std::marker::Model;

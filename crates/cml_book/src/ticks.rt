@@ -3,7 +3,7 @@
 ghost use Rattle.std.specs.{Prelude.{◌≡◌, ◌≤◌, ◌<◌, ◌+◌, ◌^◌, ◌++◌, ℕ, [], ◌∷◌, true, length, map, take, IfOk, OnOk, OnErr}, List.{filter}};
 ghost use Rattle.std.specs.Vec.{vec_capacity};
 ghost use Rattle.cml_value.specs.Group.{bases, leaf_count};
-ghost use Rattle.cml_signal.specs.Clocks.{leaves_at};
+ghost use Rattle.cml_objects.specs.Clocks.{leaves_at};
 ghost use Rattle.cml_group.specs.LaidOut.{max_leaves};
 ghost use Rattle.cml_scan.specs.{World.{pending}, Table.{has_light}, declared.object.Light.{Light}};
 ghost use Rattle.cml_scan.specs.declared.object.Light.TheVariants as of;
@@ -12,8 +12,8 @@ ghost use Rattle.cml_book.specs.{Clock.{bases_awaited}, Keeping.{lights_in, awai
 use crate::counted::Counted;
 use crate::state::State;
 use cml_group::Flat;
+use cml_objects::Clock;
 use cml_scan::Light;
-use cml_signal::Clock;
 use cml_value::{Base, BaseKind};
 use std::alloc::{AllocError, Global};
 

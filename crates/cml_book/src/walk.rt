@@ -8,9 +8,8 @@ ghost use Rattle.cml_book.specs.Sync as spec;
 
 use crate::refusal::Refusal;
 use crate::state::State;
-use cml_base::Register;
 use cml_group::has_few_leaves;
-use cml_signal::NackCell;
+use cml_objects::{NackCell, Register};
 use cml_value::{Base, BaseKind, Group, GroupKind, NackId, Tid};
 
 /// The greatest tick.

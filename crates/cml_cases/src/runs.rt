@@ -3,8 +3,8 @@
 use crate::cases::{Case, File, Words};
 use crate::tally::Tally;
 use cml_host::{Open, Store, run_command_counted};
-use cml_memory::MemoryStore;
 use cml_stream::Counting;
+use cml_system::memory::MemoryStore;
 use std::alloc::{AllocError, Global};
 use std::io;
 use std::sync::Wait;

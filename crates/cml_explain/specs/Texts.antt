@@ -7,7 +7,7 @@ use Rattle.cml_text.specs.Lexemes.{is_token_byte}
 use Rattle.cml_text.specs.Faults.{PlainFault}
 use Rattle.cml_text.specs.declared.fault.FaultKind.{FaultKind}
 use Rattle.cml_text.specs.declared.fault.FaultKind.TheVariants as kind
-use Rattle.cml_place.specs.Shown.{first_characters}
+use Rattle.cml_phrase.specs.Shown.{first_characters}
 use Rattle.cml_explain.specs.declared.text.Found.{Found}
 use Rattle.cml_explain.specs.declared.text.Found.TheVariants.{OpenList, OpenLiteral, Stray, Token, Escape, Number, Deep, LongText, LongLiteral, Utf8}
 

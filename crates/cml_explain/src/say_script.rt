@@ -7,7 +7,7 @@ use crate::say_keyword::{needs, takes};
 use crate::script::{ScriptTrouble, script_trouble};
 use crate::trouble::{Later, Trouble};
 use cml_check::{CheckKind, Word};
-use cml_place::{Diagnosis, Note, render};
+use cml_phrase::{Diagnosis, Note, render};
 use cml_text::Sexpr;
 use std::alloc::{AllocError, Global};
 

@@ -1,7 +1,7 @@
 //! What is said of what is wrong with a text.
 
 use crate::text::{Found, TextTrouble, text_trouble};
-use cml_place::{Diagnosis, Note, push_first, render};
+use cml_phrase::{Diagnosis, Note, push_first, render};
 use cml_text::FaultKind;
 use std::alloc::{AllocError, Global};
 

@@ -5,7 +5,7 @@ ghost use Rattle.cml_text.specs.Lexemes as lexemes;
 ghost use Rattle.cml_explain.specs.Views.{plain_text_trouble};
 ghost use Rattle.cml_explain.specs.Texts as spec;
 
-use cml_place::{first_characters, split_place};
+use cml_phrase::{first_characters, split_place};
 use cml_text::FaultKind;
 
 // The most bytes of a text.

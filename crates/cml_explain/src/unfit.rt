@@ -3,7 +3,7 @@
 ghost use Rattle.std.specs.{Prelude.{◌≡◌, ◌-◌, ◌<◌, ◌^◌, length, slice_get}, Option.{option_map}};
 ghost use Rattle.cml_text.specs.Lines.{lines};
 
-use cml_place::push_first;
+use cml_phrase::push_first;
 use cml_text::Lines;
 use std::alloc::{AllocError, Global};
 

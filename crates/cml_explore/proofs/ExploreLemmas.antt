@@ -11,14 +11,14 @@ use Rattle.cml_hub.specs.Kept.{Kept}
 use Rattle.cml_explore.specs.declared.explored.Asked.{Asked}
 use Rattle.cml_schedule.specs.declared.item.Item.{Item}
 use Rattle.sha2.specs.Sha256.{sha256}
-use Rattle.cml_fault.specs.declared.detail.Detail.{Detail}
-use Rattle.cml_fault.specs.Details.{alike}
+use Rattle.cml_facts.specs.declared.fault.detail.Detail.{Detail}
+use Rattle.cml_facts.specs.Details.{alike}
 use Rattle.cml_explore.specs.Classes.{Finish, PlainClass, grown, classed, classed_all}
 use Rattle.cml_explore.specs.declared.explored.Until.{Until}
-use Rattle.cml_seed.specs.declared.order.Order.{Order}
+use Rattle.cml_explore.specs.declared.seed.order.Order.{Order}
 use Rattle.cml_explore.specs.declared.orders.Orders.{Orders}
 use Rattle.cml_explore.specs.Orders.{seed_order}
-use Rattle.cml_seed.specs.SeedRuns.{IsSeedRun}
+use Rattle.cml_explore.specs.SeedRuns.{IsSeedRun}
 use Rattle.cml_explore.specs.Finishes.{PlainEnded, is_well, stops, IsEndOf, EndsSoBy, EachEnds, finish_of}
 use Rattle.cml_explore.specs.Explored.{PlainExplored, gathered, nothing_made, with_ended, IsExplored, SoFar, HasMade}
 use Rattle.cml_explore.specs.Merges.{StopsLast}

@@ -7,9 +7,9 @@ use Rattle.std.proofs.lemmas.List.Quantifiers.{position-Some}
 use Rattle.std.proofs.lemmas.List.Sums.{sum_by-cons}
 use Rattle.std.specs.List.{All, list_any}
 use Rattle.std.proofs.lemmas.List.Elements.{All-nil, All-cons, All-head, All-tail}
-use Rattle.cml_ending.proofs.OrLemmas.{or_false}
-use Rattle.cml_fault.specs.declared.detail.Detail.{Detail}
-use Rattle.cml_fault.specs.Details.{alike}
+use Rattle.cml_facts.proofs.OrLemmas.{or_false}
+use Rattle.cml_facts.specs.declared.fault.detail.Detail.{Detail}
+use Rattle.cml_facts.specs.Details.{alike}
 use Rattle.cml_explore.specs.Classes.{PlainSummary, PlainClass, with_details}
 use Rattle.cml_explore.specs.Merges.{both_summaries, summary_alone, class_joined, classes_merged, runs_of}
 

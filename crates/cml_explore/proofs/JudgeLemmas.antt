@@ -18,14 +18,14 @@ use Rattle.cml_hub.specs.Courses.{PlainCourse, run_of}
 use Rattle.cml_hub.specs.Deeds.{origins, fault_count}
 use Rattle.cml_hub.specs.Kept.{Kept}
 use Rattle.cml_hub.specs.Runs.{ending}
-use Rattle.cml_ending.specs.Standings.{call_of_machine}
-use Rattle.cml_ending.specs.Stuck.{is_quiet, is_server, is_held_up, some_held_up}
-use Rattle.cml_fault.specs.Falls.{PlainFall}
-use Rattle.cml_fault.specs.declared.detail.Detail.{Detail}
-use Rattle.cml_fault.specs.declared.detail.Detail.TheVariants as detail
-use Rattle.cml_fault.specs.contracts.detail.DetailEq.TheImpl.Laws.{laws-law}
-use Rattle.cml_fault.specs.Details.{AreDetails, alike, ask_detail, began_details, call_details, details_with, end_detail, fall_details, kind_detail, same_detail, standing_details}
-use Rattle.cml_fault.specs.Details.{thread_details, threads_details}
+use Rattle.cml_facts.specs.Standings.{call_of_machine}
+use Rattle.cml_facts.specs.Stuck.{is_quiet, is_server, is_held_up, some_held_up}
+use Rattle.cml_facts.specs.Falls.{PlainFall}
+use Rattle.cml_facts.specs.declared.fault.detail.Detail.{Detail}
+use Rattle.cml_facts.specs.declared.fault.detail.Detail.TheVariants as detail
+use Rattle.cml_facts.specs.contracts.fault.detail.DetailEq.TheImpl.Laws.{laws-law}
+use Rattle.cml_facts.specs.Details.{AreDetails, alike, ask_detail, began_details, call_details, details_with, end_detail, fall_details, kind_detail, same_detail, standing_details}
+use Rattle.cml_facts.specs.Details.{thread_details, threads_details}
 use Rattle.cml_explore.specs.Laws.{JudgedAlike}
 
 both_true : (a b : Bool) → a && b ≡ true → (a ≡ true) × (b ≡ true)

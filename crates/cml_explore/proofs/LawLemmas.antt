@@ -7,10 +7,10 @@ use Rattle.std.proofs.lemmas.List.Sums.{sum_by-cons}
 use Rattle.std.proofs.lemmas.List.Elements.{All-nil, All-cons, All-head, All-tail}
 use Rattle.cml_check.specs.Syntax.{PlainItem}
 use Rattle.cml_schedule.specs.declared.item.Item.{Item}
-use Rattle.cml_fault.specs.declared.detail.Detail.{Detail}
-use Rattle.cml_fault.specs.declared.detail.Detail.TheVariants as detail
+use Rattle.cml_facts.specs.declared.fault.detail.Detail.{Detail}
+use Rattle.cml_facts.specs.declared.fault.detail.Detail.TheVariants as detail
 use Rattle.cml_explore.specs.declared.explored.Asked.{Asked}
-use Rattle.cml_fault.specs.Details.{same_detail, alike}
+use Rattle.cml_facts.specs.Details.{same_detail, alike}
 use Rattle.cml_explore.specs.Classes.{Finish, PlainSummary, PlainClass, shorter, first_run, grown, classed, classed_all}
 use Rattle.cml_explore.specs.Finishes.{PlainEnded, EndsSoBy, EachEnds}
 use Rattle.cml_explore.specs.Explored.{PlainExplored, IsExplored}

@@ -14,3 +14,10 @@ pub mod ToldLemmas
 pub mod EndLemmas
 pub mod OutcomeLemmas
 pub mod FaultLemmas
+pub mod DrawLemmas
+pub mod LotLemmas
+pub mod PriorityLemmas
+pub mod RunLemmas
+pub mod CutLemmas
+pub mod SearchLemmas
+pub mod AlikeLemmas

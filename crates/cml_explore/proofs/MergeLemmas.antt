@@ -8,10 +8,10 @@ use Rattle.std.proofs.lemmas.Bool.Decides.{nat_tests}
 use Rattle.std.proofs.lemmas.List.Folds.{list_any-append}
 use Rattle.std.proofs.lemmas.List.Sums.{fold-append}
 use Rattle.cml_schedule.specs.declared.item.Item.{Item}
-use Rattle.cml_ending.proofs.OrLemmas.{or_false}
-use Rattle.cml_fault.specs.declared.detail.Detail.{Detail}
-use Rattle.cml_fault.specs.contracts.detail.DetailEq.TheImpl.Laws.{laws-law}
-use Rattle.cml_fault.specs.Details.{alike}
+use Rattle.cml_facts.proofs.OrLemmas.{or_false}
+use Rattle.cml_facts.specs.declared.fault.detail.Detail.{Detail}
+use Rattle.cml_facts.specs.contracts.fault.detail.DetailEq.TheImpl.Laws.{laws-law}
+use Rattle.cml_facts.specs.Details.{alike}
 use Rattle.cml_explore.specs.Classes.{Finish, PlainSummary, PlainClass, with_digest, shorter, first_run, grown, classed, classed_all, classes_of}
 use Rattle.cml_explore.specs.Merges.{both_summaries, summary_alone, class_joined, classes_merged}
 

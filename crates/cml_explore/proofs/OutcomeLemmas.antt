@@ -3,9 +3,9 @@ use Rattle.std.proofs.Common.{◌≡◌, ℕ, suc, Bool, List, [], ◌∷◌, ap
 use Rattle.std.specs.Prelude.{Option, Some, None, Result, IfOk, is_some}
 use Rattle.std.proofs.lemmas.Result.{IfOk-weaker}
 use Rattle.cml_check.specs.Syntax.{PlainItem}
-use Rattle.cml_ending.proofs.ThreadLemmas.{IsMade}
-use Rattle.cml_fault.specs.Failures.{Failure, failures}
-use Rattle.cml_fault.specs.Falls.{PlainFall, AreFalls, IsFallOf, failure_of_thread}
+use Rattle.cml_facts.proofs.ThreadLemmas.{IsMade}
+use Rattle.cml_facts.specs.Failures.{Failure, failures}
+use Rattle.cml_facts.specs.Falls.{PlainFall, AreFalls, IsFallOf, failure_of_thread}
 use Rattle.cml_hub.specs.Kept.{Kept}
 use Rattle.cml_scan.specs.World.{PlainThread}
 use Rattle.cml_schedule.specs.declared.item.Item.{Item}

@@ -11,7 +11,7 @@ use Rattle.cml_check.specs.Syntax.{PlainItem}
 use Rattle.cml_explore.specs.declared.explored.Asked.{Asked}
 use Rattle.cml_explore.specs.declared.share.Part.{Part}
 use Rattle.cml_explore.specs.declared.share.Round.{Round}
-use Rattle.cml_fault.specs.Details.{alike}
+use Rattle.cml_facts.specs.Details.{alike}
 use Rattle.cml_explore.specs.Classes.{Finish, PlainClass, grown, classed, classed_all, classes_of}
 use Rattle.cml_explore.specs.Finishes.{PlainEnded, is_well, stops, EachEnds}
 use Rattle.cml_explore.specs.Explored.{PlainExplored, gathered, IsExplored, SoFar}

@@ -12,13 +12,13 @@ use Rattle.cml_scan.specs.World.{PlainThread}
 use Rattle.cml_hub.specs.Courses.{PlainCourse}
 use Rattle.cml_hub.specs.Deeds.{origins}
 use Rattle.cml_phrase.specs.declared.place.Place.{Place}
-use Rattle.cml_ending.specs.declared.standing.Spot.{Spot}
-use Rattle.cml_ending.specs.declared.takers.Takers.{Takers}
-use Rattle.cml_ending.specs.Takes.{takes_of, last_taker, taker_in, KnowsTakers}
-use Rattle.cml_ending.specs.Standings.{IsSpotOf, spot_at}
-use Rattle.cml_ending.specs.Lefts.{stands_of}
-use Rattle.cml_ending.proofs.ThreadLemmas.{IsMade}
-use Rattle.cml_fault.specs.Falls.{PlainFall, AreFalls}
+use Rattle.cml_facts.specs.declared.ending.standing.Spot.{Spot}
+use Rattle.cml_facts.specs.declared.ending.takers.Takers.{Takers}
+use Rattle.cml_facts.specs.Takes.{takes_of, last_taker, taker_in, KnowsTakers}
+use Rattle.cml_facts.specs.Standings.{IsSpotOf, spot_at}
+use Rattle.cml_facts.specs.Lefts.{stands_of}
+use Rattle.cml_facts.proofs.ThreadLemmas.{IsMade}
+use Rattle.cml_facts.specs.Falls.{PlainFall, AreFalls}
 use Rattle.cml_explore.specs.declared.told.ThreadLeft.{ThreadLeft}
 use Rattle.cml_explore.specs.declared.told.ThreadState.{ThreadState}
 use Rattle.cml_explore.specs.Sights.{Sight, AreSpotsToTell, fault_state, state_or_fault, state_told, thread_left, thread_told, threads_told}

@@ -3,8 +3,8 @@ use Rattle.std.specs.Prelude.{ℕ, suc, ◌+◌, if◌then◌else◌, nat_lt, na
 use Rattle.std.specs.List.{list_any}
 use Rattle.std.specs.Cmp.Lexicographic.{pointwise}
 use Rattle.cml_schedule.specs.declared.item.Item.{Item}
-use Rattle.cml_fault.specs.declared.detail.Detail.{Detail}
-use Rattle.cml_fault.specs.Details.{alike}
+use Rattle.cml_facts.specs.declared.fault.detail.Detail.{Detail}
+use Rattle.cml_facts.specs.Details.{alike}
 
 -- How a run ended: the details, the digest of its output, and its schedule.
 pub record Finish : Type 0 where

@@ -10,15 +10,15 @@ use Rattle.cml_hub.specs.Runs.{ending}
 use Rattle.cml_hub.specs.Courses.{run_of}
 use Rattle.cml_hub.specs.Deeds.{origins, fault_count}
 use Rattle.cml_hub.specs.Kept.{Kept}
-use Rattle.cml_ending.specs.Stuck.{is_quiet, some_held_up}
+use Rattle.cml_facts.specs.Stuck.{is_quiet, some_held_up}
 use Rattle.cml_explore.specs.declared.finish.Fate.{Fate}
 use Rattle.cml_explore.specs.declared.explored.Until.{Until}
 use Rattle.cml_explore.specs.declared.explored.Until.TheVariants as until
 use Rattle.cml_explore.specs.declared.orders.Orders.{Orders}
 use Rattle.cml_explore.specs.Orders.{seed_order}
-use Rattle.cml_seed.specs.SeedRuns.{IsSeedRun}
-use Rattle.cml_fault.specs.declared.detail.Detail.{Detail}
-use Rattle.cml_fault.specs.Details.{AreDetails}
+use Rattle.cml_explore.specs.SeedRuns.{IsSeedRun}
+use Rattle.cml_facts.specs.declared.fault.detail.Detail.{Detail}
+use Rattle.cml_facts.specs.Details.{AreDetails}
 use Rattle.cml_explore.specs.Classes.{Finish}
 
 -- the details of how the run of a hub ended, which these are, the digest of its output, and its schedule

@@ -4,11 +4,11 @@ use Rattle.std.specs.List.{All}
 use Rattle.cml_check.specs.Syntax.{PlainItem}
 use Rattle.cml_schedule.specs.declared.item.Item.{Item}
 use Rattle.cml_hub.specs.Kept.{Kept}
-use Rattle.cml_fault.specs.declared.detail.Detail.{Detail}
+use Rattle.cml_facts.specs.declared.fault.detail.Detail.{Detail}
 use Rattle.cml_explore.specs.declared.explored.Asked.{Asked}
-use Rattle.cml_fault.specs.Details.{AreDetails, alike}
+use Rattle.cml_facts.specs.Details.{AreDetails, alike}
 use Rattle.cml_explore.specs.Classes.{PlainClass}
-use Rattle.cml_seed.specs.SeedRuns.{IsSeedRun}
+use Rattle.cml_explore.specs.SeedRuns.{IsSeedRun}
 use Rattle.cml_explore.specs.Explored.{PlainExplored, IsExplored}
 use Rattle.cml_explore.specs.Finishes.{fate_of, is_good}
 use Rattle.cml_explore.specs.Orders.{seed_order}

@@ -13,3 +13,13 @@ pub mod SightViews
 pub mod ClassViews
 pub mod Laws
 pub mod FaultsTold
+pub mod Generators
+pub mod Draws
+pub mod Lots
+pub mod Priorities
+pub mod SeedRuns
+pub mod Cuts
+pub mod ShrinkEnds
+pub mod Shrinking
+pub mod Searching
+pub mod Counts

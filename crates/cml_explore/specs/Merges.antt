@@ -6,7 +6,7 @@ use Rattle.cml_explore.specs.declared.explored.Asked.{Asked}
 use Rattle.cml_explore.specs.declared.share.Part.{Part}
 use Rattle.cml_explore.specs.declared.share.Round.{Round}
 use Rattle.cml_explore.specs.declared.share.Taken.{Taken}
-use Rattle.cml_fault.specs.Details.{alike}
+use Rattle.cml_facts.specs.Details.{alike}
 use Rattle.cml_explore.specs.Classes.{PlainSummary, PlainClass, with_digest, shorter}
 use Rattle.cml_explore.specs.Finishes.{PlainEnded, stops, EachEnds}
 use Rattle.cml_explore.specs.Explored.{PlainExplored, IsExplored, SoFar, gathered}

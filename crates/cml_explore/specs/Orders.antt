@@ -1,7 +1,7 @@
 -- What decides in each of many runs what happens next.
 use Rattle.std.specs.Prelude.{ℕ, ◌%◌, ◌==◌, if◌then◌else◌}
-use Rattle.cml_seed.specs.declared.order.Order.{Order}
-use Rattle.cml_seed.specs.declared.order.Order.TheVariants as by
+use Rattle.cml_explore.specs.declared.seed.order.Order.{Order}
+use Rattle.cml_explore.specs.declared.seed.order.Order.TheVariants as by
 use Rattle.cml_explore.specs.declared.orders.Orders.{Orders}
 use Rattle.cml_explore.specs.declared.orders.Orders.TheVariants as each
 

@@ -1,8 +1,8 @@
 -- What a schedule gives: what is printed, and how each thread ends.
 use Rattle.std.specs.Prelude.{◌≡◌, ℕ, suc, Bool, if◌then◌else◌, List, [], ◌∷◌, Some, is_some}
 use Rattle.cml_check.specs.Syntax.{PlainItem}
-use Rattle.cml_fault.specs.Failures.{failures}
-use Rattle.cml_fault.specs.Falls.{failure_of_thread}
+use Rattle.cml_facts.specs.Failures.{failures}
+use Rattle.cml_facts.specs.Falls.{failure_of_thread}
 use Rattle.cml_hub.specs.Runs.{Run, stands}
 use Rattle.cml_scan.specs.World.{PlainThread, running, pending_on, ended}
 use Rattle.cml_schedule.specs.declared.item.Item.{Item}

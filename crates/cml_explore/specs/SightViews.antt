@@ -2,9 +2,9 @@
 use Rattle.std.specs.Prelude.{map}
 use Rattle.cml_step.specs.Calls.{text_of}
 use Rattle.cml_hub.specs.Deeds.{origins}
-use Rattle.cml_ending.specs.Takes.{taker_in}
+use Rattle.cml_facts.specs.Takes.{taker_in}
 use Rattle.cml_explore.specs.declared.sight.Sighted.{Sighted}
-use Rattle.cml_fault.specs.FallViews.{fall_in}
+use Rattle.cml_facts.specs.FallViews.{fall_in}
 use Rattle.cml_explore.specs.Sights.{Sight}
 
 abbrev pub plain_sight : Sighted → Sight

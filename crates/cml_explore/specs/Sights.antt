@@ -9,14 +9,14 @@ use Rattle.cml_step.specs.Machines.{PlainHeld}
 use Rattle.cml_hub.specs.Courses.{PlainCourse}
 use Rattle.cml_hub.specs.Deeds.{origins}
 use Rattle.cml_phrase.specs.declared.place.Place.{Place}
-use Rattle.cml_ending.specs.declared.standing.Spot.{Spot}
-use Rattle.cml_ending.specs.declared.left.Stands.{Stands}
-use Rattle.cml_ending.specs.Waits.{who_is}
-use Rattle.cml_ending.specs.Lefts.{stands_of}
-use Rattle.cml_ending.specs.Takes.{takes_of, last_taker}
-use Rattle.cml_ending.specs.Standings.{IsSpotOf, call_of_machine, spot_at, spot_place}
-use Rattle.cml_fault.specs.Falls.{PlainFall}
-use Rattle.cml_fault.specs.Reasons.{reason_of}
+use Rattle.cml_facts.specs.declared.ending.standing.Spot.{Spot}
+use Rattle.cml_facts.specs.declared.ending.left.Stands.{Stands}
+use Rattle.cml_facts.specs.Waits.{who_is}
+use Rattle.cml_facts.specs.Lefts.{stands_of}
+use Rattle.cml_facts.specs.Takes.{takes_of, last_taker}
+use Rattle.cml_facts.specs.Standings.{IsSpotOf, call_of_machine, spot_at, spot_place}
+use Rattle.cml_facts.specs.Falls.{PlainFall}
+use Rattle.cml_facts.specs.Reasons.{reason_of}
 use Rattle.cml_explore.specs.declared.told.ThreadLeft.{ThreadLeft}
 use Rattle.cml_explore.specs.declared.told.ThreadState.{ThreadState}
 use Rattle.cml_explore.specs.declared.told.ThreadState.TheVariants as states

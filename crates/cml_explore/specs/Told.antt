@@ -8,11 +8,11 @@ use Rattle.cml_hub.specs.Deeds.{fault_count}
 use Rattle.cml_hub.specs.Kept.{Kept}
 use Rattle.cml_hub.specs.Runs.{ending}
 use Rattle.cml_phrase.specs.declared.place.Place.{Place}
-use Rattle.cml_ending.specs.Stuck.{is_server}
-use Rattle.cml_ending.specs.declared.standing.Spot.{Spot}
-use Rattle.cml_ending.specs.declared.left.Stands.TheVariants as standing
-use Rattle.cml_fault.specs.Falls.{PlainFall, AreFalls}
-use Rattle.cml_seed.specs.SeedRuns.{IsSeedRun}
+use Rattle.cml_facts.specs.Stuck.{is_server}
+use Rattle.cml_facts.specs.declared.ending.standing.Spot.{Spot}
+use Rattle.cml_facts.specs.declared.ending.left.Stands.TheVariants as standing
+use Rattle.cml_facts.specs.Falls.{PlainFall, AreFalls}
+use Rattle.cml_explore.specs.SeedRuns.{IsSeedRun}
 use Rattle.cml_explore.specs.declared.explored.Asked.{Asked}
 use Rattle.cml_explore.specs.declared.told.ClassTold.{ClassTold}
 use Rattle.cml_explore.specs.declared.told.RunTold.{RunTold}

@@ -1,12 +1,12 @@
 //! Runs in classes of those that ended alike.
 
 ghost use Rattle.std.specs.{Prelude.{◌≡◌, ◌<◌, ◌+◌, ◌^◌, ◌++◌, ◌∷◌, ◌==◌, false, [], OnOk, OnErr, Some, map, length, slice_get}, List.{All, list_any}};
-ghost use Rattle.cml_fault.specs.Details.{alike};
+ghost use Rattle.cml_facts.specs.Details.{alike};
 ghost use Rattle.cml_explore.specs.{ClassViews.{plain_class}, Merges.{runs_of, class_joined, classes_merged}};
 ghost use Rattle.cml_explore.specs.Classes as spec;
 
 use crate::summary::Summary;
-use cml_fault::Detail;
+use cml_facts::fault::Detail;
 use cml_hub::Item;
 use indexmap::IndexSet;
 use std::alloc::{AllocError, Global};

@@ -11,13 +11,13 @@ use crate::classes::Classes;
 use crate::explored::{Asked, Explored, is_well};
 use crate::finish::fate_of;
 use crate::orders::Orders;
+use crate::seed::Order;
 use crate::tell::run_told;
 use crate::told::RunTold;
 use cml_check::Prog;
-use cml_ending::let_go;
+use cml_facts::ending::let_go;
 use cml_hub::{Hub, Item};
 use cml_phrase::{Place, statement_places};
-use cml_seed::Order;
 use cml_text::Sexpr;
 use std::alloc::{AllocError, Global};
 

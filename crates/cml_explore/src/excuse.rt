@@ -1,12 +1,12 @@
 //! Which threads may wait.
 
 ghost use Rattle.std.specs.{Prelude.{◌≡◌, ◌==◌}, List.{list_any}};
-ghost use Rattle.cml_ending.specs.Stuck.{is_server as began_as_server};
+ghost use Rattle.cml_facts.specs.Stuck.{is_server as began_as_server};
 ghost use Rattle.cml_explore.specs.Told as spec;
 
 use crate::tell::is_waiting;
 use crate::told::ThreadLeft;
-use cml_ending::Named;
+use cml_facts::ending::Named;
 
 // Whether the function of this number is among these.
 fn is_among(servers: &[u32], func: u32) -> bool

@@ -10,11 +10,11 @@ ghost use Rattle.cml_explore.specs.Finishes as spec;
 use crate::classes::Classes;
 use crate::finish::{Fate, digest_of, fate_of};
 use crate::orders::Orders;
+use crate::seed::seed_run;
 use cml_check::Prog;
-use cml_ending::let_go;
-use cml_fault::details_of;
+use cml_facts::ending::let_go;
+use cml_facts::fault::details_of;
 use cml_hub::{End, Hub};
-use cml_seed::seed_run;
 use std::alloc::{AllocError, Global};
 use std::marker::Model;
 

@@ -9,7 +9,7 @@ use crate::ends::hub_by;
 use crate::tell::run_told;
 use crate::told::RunTold;
 use cml_check::Prog;
-use cml_ending::let_go;
+use cml_facts::ending::let_go;
 use cml_hub::Item;
 use cml_phrase::{Place, statement_places};
 use cml_text::Sexpr;

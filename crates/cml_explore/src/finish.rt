@@ -4,7 +4,7 @@ ghost use Rattle.std.specs.Prelude.{◌≡◌};
 ghost use Rattle.sha2.specs.Sha256.{sha256};
 ghost use Rattle.cml_explore.specs.Finishes as spec;
 
-use cml_ending::some_held_up;
+use cml_facts::ending::some_held_up;
 use cml_hub::{End, Hub};
 use sha2::{Digest, Sha256};
 

@@ -3,7 +3,7 @@
 ghost use Rattle.std.specs.Prelude.{◌≡◌};
 ghost use Rattle.cml_explore.specs.Orders as spec;
 
-use cml_seed::Order;
+use crate::seed::Order;
 
 // How many orders go round.
 const ORDERS: u64 = 5;

@@ -1,15 +1,15 @@
 //! What a schedule gives: what is printed, and how each thread ends.
 
 ghost use Rattle.std.specs.{Prelude.{◌≡◌, IfOk, Some, is_some, if◌then◌else◌, slice_get}};
-ghost use Rattle.cml_fault.specs.FallViews.{fall_in};
+ghost use Rattle.cml_facts.specs.FallViews.{fall_in};
 ghost use Rattle.cml_scan.specs.World.{PlainThread};
 ghost use Rattle.cml_explore.specs.Outcomes.{GivesOutcome, plain_outcome};
 ghost use Rattle.cml_explore.specs.Outcomes as spec;
 
 use crate::ends::hub_by;
 use cml_check::Prog;
-use cml_ending::let_go;
-use cml_fault::{Falls, falls_of};
+use cml_facts::ending::let_go;
+use cml_facts::fault::{Falls, falls_of};
 use cml_hub::{Hub, Item};
 use cml_value::Tid;
 use std::alloc::{AllocError, Global};

@@ -2,14 +2,14 @@
 
 ghost use Rattle.std.specs.{Prelude.{◌≡◌, ◌++◌, ◌<◌, OnOk, IfOk, Some, length, option_map, slice_get}, Option.{option_to_list}};
 ghost use Rattle.cml_scan.specs.World.{PlainThread};
-ghost use Rattle.cml_ending.specs.Standings.{IsSpotOf};
-ghost use Rattle.cml_fault.specs.{FallViews.{plain_fall, fall_in}};
+ghost use Rattle.cml_facts.specs.Standings.{IsSpotOf};
+ghost use Rattle.cml_facts.specs.{FallViews.{plain_fall, fall_in}};
 ghost use Rattle.cml_explore.specs.{SightViews.{plain_sight}, Sights.{AreSpotsToTell}};
 ghost use Rattle.cml_explore.specs.Sights as spec;
 
 use crate::told::{ThreadLeft, ThreadState};
-use cml_ending::{Spot, Takers, machine_spot, place_of, stands_of, thread_spot, who_is};
-use cml_fault::{Falls, reason_of};
+use cml_facts::ending::{Spot, Takers, machine_spot, place_of, stands_of, thread_spot, who_is};
+use cml_facts::fault::{Falls, reason_of};
 use cml_hub::Hub;
 use cml_phrase::Place;
 use cml_value::Tid;

@@ -7,10 +7,10 @@ ghost use Rattle.cml_explore.specs.Stops as spec;
 
 use crate::explored::{Asked, Until, stops_at};
 use crate::finish::{Fate, fate_of};
+use crate::seed::{Order, seed_run};
 use crate::told::{ClassTold, RunsTold, Stopped};
 use cml_check::Prog;
-use cml_ending::let_go;
-use cml_seed::{Order, seed_run};
+use cml_facts::ending::let_go;
 use std::alloc::{AllocError, Global};
 
 // Which of these kinds of run one of this fate is, the first of them.

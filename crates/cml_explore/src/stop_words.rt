@@ -3,7 +3,7 @@
 use crate::explored::Until;
 use crate::told::{RunsTold, Stopped};
 use crate::words::push_option;
-use cml_ending::{push_many, push_number};
+use cml_facts::ending::{push_many, push_number};
 use std::alloc::{AllocError, Global};
 
 // The word by which a kind of run is asked for.

@@ -1,7 +1,7 @@
 //! What is kept of runs that ended alike.
 
 ghost use Rattle.std.specs.{Prelude.{◌≡◌, ◌<◌, ◌+◌, ◌^◌, ℕ, List, IfOk, OnOk, OnErr, length}, List.{fold}};
-ghost use Rattle.cml_fault.specs.declared.detail.Detail.{Detail};
+ghost use Rattle.cml_facts.specs.declared.fault.detail.Detail.{Detail};
 ghost use Rattle.cml_explore.specs.{Classes.{Finish}, Merges.{both_summaries, summary_alone}};
 ghost use Rattle.cml_explore.specs.Classes as spec;
 

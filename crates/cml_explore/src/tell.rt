@@ -9,15 +9,15 @@ ghost use Rattle.cml_explore.specs.Told as spec;
 use crate::classes::Classes;
 use crate::explored::{Asked, Explored, is_well};
 use crate::finish::fate_of;
+use crate::seed::seed_run;
 use crate::sight::{Sighted, spots_of};
 use crate::stop::last_stop;
 use crate::told::{ClassTold, RunTold, RunsTold, ThreadLeft, ThreadState};
 use cml_check::Prog;
-use cml_ending::{Stands, let_go};
-use cml_fault::retell;
+use cml_facts::ending::{Stands, let_go};
+use cml_facts::fault::retell;
 use cml_hub::Hub;
 use cml_phrase::{Place, statement_places};
-use cml_seed::seed_run;
 use cml_text::Sexpr;
 use std::alloc::{AllocError, Global};
 

@@ -2,11 +2,11 @@
 
 use crate::explored::Until;
 use crate::orders::Orders;
-use cml_ending::{Named, Stands};
-use cml_fault::Reason;
+use crate::seed::Order;
+use cml_facts::ending::{Named, Stands};
+use cml_facts::fault::Reason;
 use cml_hub::End;
 use cml_phrase::Place;
-use cml_seed::Order;
 
 /// How a thread is left when a run has ended.
 pub enum ThreadState {

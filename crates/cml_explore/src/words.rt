@@ -4,13 +4,13 @@ use crate::ends::{EndTold, EndsTold};
 use crate::excuse::may_wait;
 use crate::fault_told::FaultTold;
 use crate::orders::Orders;
+use crate::seed::Order;
 use crate::stop_words::{push_count, push_stop};
 use crate::told::{ClassTold, RunTold, RunsTold, ThreadLeft, ThreadState};
-use cml_ending::{Stands, push_awaited, push_many, push_named, push_number};
-use cml_fault::push_reason;
+use cml_facts::ending::{Stands, push_awaited, push_many, push_named, push_number};
+use cml_facts::fault::push_reason;
 use cml_hub::End;
 use cml_phrase::{Place, push_line};
-use cml_seed::Order;
 use cml_text::Sexpr;
 use std::alloc::{AllocError, Global};
 

@@ -25,7 +25,7 @@ use Rattle.cml_host.specs.Replies.{IsCarriedOut, Moment, Passage, PlainReply, be
 use Rattle.cml_host.specs.Running.{AreToldBy, BegunOutcome, HasEnded, IsChosen, IsEnded, IsEndReply, IsRunBy, IsRunReply, IsStopped, PlainSaving, Plays, PlaysChosen, ProgramOutcome}
 use Rattle.cml_host.specs.Running.{RunsSo, ScriptOutcome, SomehowOutcome, failed_by, run_asked, saving_of, stop_reply}
 use Rattle.cml_host.specs.Orders.{order_said}
-use Rattle.cml_seed.specs.declared.order.Order.{Order}
+use Rattle.cml_explore.specs.declared.seed.order.Order.{Order}
 use Rattle.cml_host.specs.Servers.{first_unknown, server_numbers, server_names}
 use Rattle.cml_host.specs.Scripts.{PlainScript}
 use Rattle.cml_host.specs.Stores.{Shelf}

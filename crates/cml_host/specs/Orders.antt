@@ -1,7 +1,7 @@
 -- What decides what happens next, as the arguments say it.
 use Rattle.std.specs.Prelude.{ℕ, Bool, if◌then◌else◌, Option, Some, None}
-use Rattle.cml_seed.specs.declared.order.Order.{Order}
-use Rattle.cml_seed.specs.declared.order.Order.TheVariants as by
+use Rattle.cml_explore.specs.declared.seed.order.Order.{Order}
+use Rattle.cml_explore.specs.declared.seed.order.Order.TheVariants as by
 use Rattle.cml_explore.specs.declared.orders.Orders.{Orders}
 use Rattle.cml_explore.specs.declared.orders.Orders.TheVariants as each
 

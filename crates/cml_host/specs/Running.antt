@@ -26,8 +26,8 @@ use Rattle.cml_host.specs.Behind.{RepliesAfter}
 use Rattle.cml_host.specs.Replies.{File, Passage, PlainReply, RefusalOf, Replies, broken, file, refusal, runs_out}
 use Rattle.cml_host.specs.Scripts.{PlainScript, IsOpened, IsNoScript}
 use Rattle.cml_host.specs.Orders.{order_said}
-use Rattle.cml_seed.specs.SeedRuns.{IsSeedRun}
-use Rattle.cml_seed.specs.declared.order.Order.{Order}
+use Rattle.cml_explore.specs.SeedRuns.{IsSeedRun}
+use Rattle.cml_explore.specs.declared.seed.order.Order.{Order}
 use Rattle.cml_host.specs.Servers.{IsNoFunction, first_unknown, server_numbers, server_names}
 use Rattle.cml_host.specs.Told.{IsRunOf, AllReported, AreTold, AreCut, AreForeign, reports_text}
 use Rattle.cml_host.specs.Closed.{PlainAsked, IsClosed}

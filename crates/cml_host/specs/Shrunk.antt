@@ -4,7 +4,7 @@ use Rattle.cml_check.specs.Sizes.{size_of}
 use Rattle.cml_check.specs.Syntax.{PlainItem}
 use Rattle.cml_schedule.specs.Plans.{PlainPlan}
 use Rattle.cml_schedule.specs.Written.{schedule_text}
-use Rattle.cml_shrink.specs.Shrinking.{PlainShrunk, IsShrunk}
+use Rattle.cml_explore.specs.Shrinking.{PlainShrunk, IsShrunk}
 use Rattle.cml_arguments.specs.declared.ShrinkOptions.{ShrinkOptions}
 use Rattle.cml_host.specs.Plans.{AreBoth, AreNotBoth}
 use Rattle.cml_host.specs.Refused.{Fault}

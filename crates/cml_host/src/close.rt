@@ -7,8 +7,8 @@ ghost use Rattle.cml_host.specs.Told as spec;
 
 use crate::script::Script;
 use cml_check::Prog;
-use cml_ending::{explain_end, is_stuck};
-use cml_fault::{faults_of, write_faults};
+use cml_facts::ending::{explain_end, is_stuck};
+use cml_facts::fault::{faults_of, write_faults};
 use cml_hub::{End, Hub};
 use cml_phrase::statement_places;
 use cml_text::Sexpr;

@@ -5,7 +5,7 @@ ghost use Rattle.cml_hub.specs.Kept.{IsAtStart, IsFollowed, NoneOut};
 ghost use Rattle.cml_host.specs.{Plans.{AreNotBoth}, Refused.{RefusesAs}, Replies.{passage, plain_refusal, plain_reply}, Stores.{IsUnchanged, Shelf}};
 ghost use Rattle.cml_host.specs.Narrated.{EndReplied, ExplainOutcome, ExplainsSo, HasToldFirst, IsCutBy, IsCutReply, IsPlanBegun, ItemRefused, PlanTold, Writes};
 ghost use Rattle.cml_host.specs.Narrated as spec;
-ghost use Rattle.cml_narrative.specs.Narrators.{Knows};
+ghost use Rattle.cml_facts.specs.Narrators.{Knows};
 ghost use Rattle.cml_stream.specs.{Counts.{counted}, Streams.{stream}};
 
 use crate::close::{Subject, end_words};
@@ -17,8 +17,8 @@ use crate::reply::{Reply, carry_out, text_reply};
 use crate::store::Store;
 use crate::tell::let_go;
 use cml_arguments::PartOptions;
+use cml_facts::narrative::{Happened, Narrator, push_happened};
 use cml_hub::{Hub, Item, Plan};
-use cml_narrative::{Happened, Narrator, push_happened};
 use cml_stream::Counting;
 use cml_stream::input_output::WriteFault;
 use cml_text::Sexpr;

@@ -5,8 +5,8 @@ ghost use Rattle.cml_host.specs.Plans.{IsItemTold, IsLineBehind, SaysSomething};
 ghost use Rattle.cml_text.specs.{Lines.{lines}, Texts.{Spells}};
 
 use crate::reason::explained;
+use cml_facts::narrative::{push_why, why_not};
 use cml_hub::{Hub, Item};
-use cml_narrative::{push_why, why_not};
 use cml_text::{Lines, Sexpr, TextFault, read};
 use std::alloc::{AllocError, Global};
 

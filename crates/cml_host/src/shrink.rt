@@ -14,9 +14,9 @@ use crate::reply::Reply;
 use crate::store::Store;
 use cml_arguments::ShrinkOptions;
 use cml_check::Prog;
+use cml_explore::shrink::{ShrinkFault, Shrunk, shrink, tell_shrunk, write_shrunk};
 use cml_hub::{Item, Plan};
 use cml_schedule::schedule_text;
-use cml_shrink::{ShrinkFault, Shrunk, shrink, tell_shrunk, write_shrunk};
 use std::alloc::{AllocError, Global};
 
 /// A shorter schedule of the script that lies under its name for the one that lies under its own, which ends alike; and how long both are.

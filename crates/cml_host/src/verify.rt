@@ -17,11 +17,11 @@ use crate::servers::find_servers;
 use crate::store::Store;
 use cml_arguments::VerifyOptions;
 use cml_check::Prog;
-use cml_ending::push_many;
 use cml_explore::{
     Classes, EndsTold, Explored, FaultTold, gather_ends, tell_ends, tell_faults, write_ends,
     write_faulted,
 };
+use cml_facts::ending::push_many;
 use cml_hub::Item;
 use cml_text::Sexpr;
 use cml_verify::{Gap, Verdict, outcomes, verify};

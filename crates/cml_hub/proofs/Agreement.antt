@@ -10,11 +10,11 @@ use Rattle.cml_scan.specs.World.{PlainThread, running, pending_on, ended, PlainW
 use Rattle.cml_scan.specs.Order.{Every}
 use Rattle.cml_scan.specs.declared.meet.Meet.{Meet}
 use Rattle.cml_scan.specs.declared.meet.Meet.TheVariants.{Single, Pair}
-use Rattle.cml_queues.specs.Queues.{added_at}
-use Rattle.cml_queues.specs.Posts.{posted}
+use Rattle.cml_objects.specs.Queues.{added_at}
+use Rattle.cml_objects.specs.Posts.{posted}
 use Rattle.cml_step.specs.Agrees.{value_agrees, function_agrees, base_agrees, event_agrees, events_agree, functions_agree, all_agree, maybe_agrees, leaf_agrees}
 use Rattle.cml_book.specs.Commit.{awaited, group_awaited, base_or_unit, wraps_or_none, base_awaited, variable_value, first_of, rest_of, given, taken, hands, released, after}
-use Rattle.cml_channel.specs.Handed.{handed}
+use Rattle.cml_objects.specs.Handed.{handed}
 use Rattle.cml_book.specs.Entering.{entered, entered_all, entered_base}
 use Rattle.cml_hub.specs.Agreeing.{thread_agrees, waits_soon, WorldAgrees, CommittedAgrees}
 

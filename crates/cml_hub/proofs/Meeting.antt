@@ -18,7 +18,7 @@ use Rattle.cml_step.specs.Calls.{text_of}
 use Rattle.cml_step.specs.Machines.{PlainMachine, machine_term, Fits}
 use Rattle.cml_step.specs.Terms.{Program}
 use Rattle.cml_book.specs.Commit.{commit, hands, after, base_awaited, resume}
-use Rattle.cml_channel.specs.Handed.{handed}
+use Rattle.cml_objects.specs.Handed.{handed}
 use Rattle.cml_book.specs.Swaps.{are_swaps}
 use Rattle.cml_book.specs.Resumes.{PlainResume}
 use Rattle.cml_book.specs.declared.command.Committed.{Committed}

@@ -10,8 +10,8 @@ use Rattle.cml_group.specs.LaidOut.{max_leaves}
 use Rattle.cml_scan.specs.World.{PlainThread, running, pending_on, ended, PlainWorld, fresh_of}
 use Rattle.cml_scan.specs.Light.{is_full}
 use Rattle.cml_scan.specs.Order.{Every}
-use Rattle.cml_queues.specs.Queues.{is_full_at, added_at}
-use Rattle.cml_queues.specs.Posts.{any_is_full, posted}
+use Rattle.cml_objects.specs.Queues.{is_full_at, added_at}
+use Rattle.cml_objects.specs.Posts.{any_is_full, posted}
 use Rattle.cml_step.specs.Agrees.{event_agrees, all_agree, maybe_agrees, ask_agrees}
 use Rattle.cml_step.specs.Asks as ask
 use Rattle.cml_step.specs.Asks.{PlainAsk, a_value, a_nack}

@@ -6,7 +6,7 @@ use Rattle.cml_value.specs.Group.{PlainGroup, bases, scopes, nacks_of}
 use Rattle.cml_value.specs.declared.number.Tid.{Tid}
 use Rattle.cml_scan.specs.declared.meet.Place.{Place}
 use Rattle.cml_scan.specs.Order.{Every, Ascends, before}
-use Rattle.cml_channel.specs.Lanes.{is_own, is_others, others, with_run}
+use Rattle.cml_objects.specs.Lanes.{is_own, is_others, others, with_run}
 use Rattle.cml_index.specs.declared.slot.Slot.{Slot}
 use Rattle.cml_index.specs.declared.slot.Wait.{Wait}
 use Rattle.cml_index.specs.Slot.{same_slot}

@@ -8,10 +8,10 @@ use Rattle.cml_value.specs.declared.number.Tid.{Tid}
 use Rattle.cml_scan.specs.declared.meet.Place.{Place}
 use Rattle.std.proofs.lemmas.List.Folds.{list_any_at}
 use Rattle.cml_scan.specs.Order.{before, before_numbers, Ascends}
-use Rattle.cml_channel.specs.declared.lane.PartnerThreads.{PartnerThreads}
-use Rattle.cml_channel.specs.declared.lane.PartnerThreads.TheVariants.{Others, Above}
-use Rattle.cml_channel.specs.Lanes.{is_others}
-use Rattle.cml_channel.proofs.Counts.{last_above}
+use Rattle.cml_objects.specs.declared.lane.PartnerThreads.{PartnerThreads}
+use Rattle.cml_objects.specs.declared.lane.PartnerThreads.TheVariants.{Others, Above}
+use Rattle.cml_objects.specs.Lanes.{is_others}
+use Rattle.cml_objects.proofs.Counts.{last_above}
 use Rattle.cml_index.proofs.Lit.{at_place}
 use Rattle.cml_index.specs.Heads.{is_beside, met_among}
 

@@ -12,14 +12,14 @@ use Rattle.cml_scan.specs.declared.meet.Place.{Place}
 use Rattle.std.specs.Prelude.{option_map}
 use Rattle.cml_scan.specs.declared.object.Light.{Light}
 use Rattle.cml_scan.specs.Light.{light}
-use Rattle.cml_channel.specs.declared.lane.PartnerThreads.TheVariants.{Others, Above}
+use Rattle.cml_objects.specs.declared.lane.PartnerThreads.TheVariants.{Others, Above}
 use Rattle.cml_index.specs.declared.lanes.Lanes.{Lanes}
 use Rattle.cml_index.specs.declared.live.Live.{Live}
-use Rattle.cml_channel.specs.Lanes.{is_own, is_others, is_of}
-use Rattle.cml_channel.specs.Pairings.{one_lane, same_object, side_place, partner_threads}
-use Rattle.cml_channel.specs.declared.pairing.PairedId.{PairedId}
-use Rattle.cml_channel.specs.declared.pairing.SidePlace.{SidePlace}
-use Rattle.cml_channel.proofs.Pairs.{same_object_is, same_object_self}
+use Rattle.cml_objects.specs.Lanes.{is_own, is_others, is_of}
+use Rattle.cml_objects.specs.Pairings.{one_lane, same_object, side_place, partner_threads}
+use Rattle.cml_objects.specs.declared.pairing.PairedId.{PairedId}
+use Rattle.cml_objects.specs.declared.pairing.SidePlace.{SidePlace}
+use Rattle.cml_objects.proofs.Pairs.{same_object_is, same_object_self}
 use Rattle.cml_index.specs.Slot.{met_lane, slot_by, met_at, met_by}
 use Rattle.cml_index.proofs.Walks.{same_object-turned}
 use Rattle.cml_index.specs.declared.slot.Slot.{Slot}

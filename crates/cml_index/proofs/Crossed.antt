@@ -19,10 +19,10 @@ use Rattle.cml_scan.specs.Table.{with_entry}
 use Rattle.cml_scan.specs.Order.{Every, IsSorted}
 use Rattle.cml_scan.proofs.Leaving.{filters_swapped}
 use Rattle.cml_scan.proofs.Ordered.{Every-append}
-use Rattle.cml_channel.specs.declared.lane.PartnerThreads.TheVariants.{Others}
-use Rattle.cml_channel.specs.Lanes.{is_own, is_others, run}
-use Rattle.cml_channel.specs.Pairings.{same_object}
-use Rattle.cml_channel.specs.declared.pairing.PairedId.{PairedId}
+use Rattle.cml_objects.specs.declared.lane.PartnerThreads.TheVariants.{Others}
+use Rattle.cml_objects.specs.Lanes.{is_own, is_others, run}
+use Rattle.cml_objects.specs.Pairings.{same_object}
+use Rattle.cml_objects.specs.declared.pairing.PairedId.{PairedId}
 use Rattle.cml_index.specs.declared.slot.Slot.{Slot}
 use Rattle.cml_index.specs.declared.slot.Slot.TheVariants.{Side, Waiters}
 use Rattle.cml_index.specs.declared.slot.Wait.{Wait}

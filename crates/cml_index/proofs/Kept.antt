@@ -5,8 +5,8 @@ use Rattle.std.proofs.lemmas.List.{length-append}
 use Rattle.cml_value.specs.declared.number.Tid.{Tid}
 use Rattle.cml_scan.specs.declared.meet.Place.{Place}
 use Rattle.cml_scan.specs.Order.{before, Every, Ascends}
-use Rattle.cml_channel.specs.Lanes.{is_others, run, with_run}
-use Rattle.cml_channel.specs.declared.pairing.PairedId.{PairedId}
+use Rattle.cml_objects.specs.Lanes.{is_others, run, with_run}
+use Rattle.cml_objects.specs.declared.pairing.PairedId.{PairedId}
 use Rattle.cml_index.proofs.Walks.{with_none}
 use Rattle.std.proofs.lemmas.Bool.Decides.{nat_tests}
 use Rattle.cml_index.specs.declared.slot.Slot.TheVariants.{Side}

@@ -14,9 +14,9 @@ use Rattle.cml_scan.proofs.Telling.{same_light_is, same_light_self, light_eq}
 use Rattle.cml_index.specs.Slot.{slot_by}
 use Rattle.cml_index.specs.Live.{may_meet, is_in, count_at}
 use Rattle.cml_index.specs.declared.slot.Slot.TheVariants.{Side, Waiters}
-use Rattle.cml_channel.specs.Pairings.{one_lane, side_place}
-use Rattle.cml_channel.specs.declared.pairing.PairedId.{PairedId}
-use Rattle.cml_channel.specs.declared.pairing.SidePlace.{SidePlace}
+use Rattle.cml_objects.specs.Pairings.{one_lane, side_place}
+use Rattle.cml_objects.specs.declared.pairing.PairedId.{PairedId}
+use Rattle.cml_objects.specs.declared.pairing.SidePlace.{SidePlace}
 use Rattle.cml_index.specs.Slots.{is_slot, lane_of, lane_at, going_at}
 use Rattle.cml_index.specs.Posts.{slot_of, told, is_named, slot_of_nack, nacks_in, lit_offers, KeepsPlaces, OnlyReserves, AreIndexed}
 use Rattle.cml_index.specs.declared.slot.Slot.{Slot}

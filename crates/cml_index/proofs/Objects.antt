@@ -2,10 +2,10 @@
 use Rattle.std.proofs.Common.{◌≡◌, ℕ, Bool, true, false, ◌||◌, nat_eq, List, [], ◌∷◌, ◌++◌, map, refl, ap, sym, ◌∙◌}
 use Rattle.std.specs.List.{list_any, IsDistinct, AllByRecursion}
 use Rattle.std.proofs.lemmas.List.Folds.{list_any-append}
-use Rattle.cml_channel.specs.Pairings.{same_object}
-use Rattle.cml_channel.specs.declared.pairing.PairedKind.{PairedKind}
-use Rattle.cml_channel.specs.declared.pairing.PairedKind.TheVariants.{Channel, Swap}
-use Rattle.cml_channel.specs.declared.pairing.PairedId.{PairedId}
+use Rattle.cml_objects.specs.Pairings.{same_object}
+use Rattle.cml_objects.specs.declared.pairing.PairedKind.{PairedKind}
+use Rattle.cml_objects.specs.declared.pairing.PairedKind.TheVariants.{Channel, Swap}
+use Rattle.cml_objects.specs.declared.pairing.PairedId.{PairedId}
 use Rattle.cml_index.specs.declared.live.Live.{Live}
 use Rattle.cml_index.specs.Live.{is_in, objects}
 

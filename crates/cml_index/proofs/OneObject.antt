@@ -11,10 +11,10 @@ use Rattle.cml_scan.specs.World.{PlainEntry}
 use Rattle.cml_scan.specs.Scan.{PlainOffer, offers_of}
 use Rattle.cml_scan.specs.Order.{place, has_partner, before, before_numbers, Ascends, Every}
 use Rattle.cml_scan.specs.declared.meet.Place.{Place}
-use Rattle.cml_channel.specs.declared.lane.PartnerThreads.TheVariants.{Others}
-use Rattle.cml_channel.specs.Lanes.{is_own, is_others, is_of}
-use Rattle.cml_channel.specs.Pairings.{same_object, partner_threads}
-use Rattle.cml_channel.specs.declared.pairing.PairedId.{PairedId}
+use Rattle.cml_objects.specs.declared.lane.PartnerThreads.TheVariants.{Others}
+use Rattle.cml_objects.specs.Lanes.{is_own, is_others, is_of}
+use Rattle.cml_objects.specs.Pairings.{same_object, partner_threads}
+use Rattle.cml_objects.specs.declared.pairing.PairedId.{PairedId}
 use Rattle.cml_index.specs.Slot.{met_lane}
 use Rattle.cml_index.specs.declared.slot.Slot.{Slot}
 use Rattle.cml_index.specs.declared.slot.Slot.TheVariants.{Side}

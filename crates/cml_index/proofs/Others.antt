@@ -4,7 +4,7 @@ use Rattle.std.proofs.lemmas.Bool.Decides.{nat_tests}
 use Rattle.cml_value.specs.declared.number.Tid.{Tid}
 use Rattle.cml_scan.specs.declared.meet.Place.{Place}
 use Rattle.cml_scan.specs.Order.{before, before_numbers, Every, Ascends}
-use Rattle.cml_channel.specs.Lanes.{is_others, others}
+use Rattle.cml_objects.specs.Lanes.{is_others, others}
 use Rattle.cml_index.proofs.Parted.{filter_fewer}
 use Rattle.cml_index.proofs.Lit.{at_place}
 

@@ -11,11 +11,11 @@ use Rattle.cml_scan.specs.Light.{light}
 use Rattle.cml_scan.specs.Scan.{PlainOffer, do_meet, can_meet, pair, pairs_with}
 use Rattle.cml_scan.specs.Order.{place, has_partner}
 use Rattle.cml_scan.proofs.Found.{offer}
-use Rattle.cml_channel.specs.declared.lane.PartnerThreads.{PartnerThreads}
-use Rattle.cml_channel.specs.declared.pairing.SidePlace.{SidePlace}
-use Rattle.cml_channel.specs.Lanes.{is_of, those}
-use Rattle.cml_channel.specs.Pairings.{one_lane, same_object, side_place, leads, partner_threads}
-use Rattle.cml_channel.proofs.Pairs.{led_to, do_meet_by_place}
+use Rattle.cml_objects.specs.declared.lane.PartnerThreads.{PartnerThreads}
+use Rattle.cml_objects.specs.declared.pairing.SidePlace.{SidePlace}
+use Rattle.cml_objects.specs.Lanes.{is_of, those}
+use Rattle.cml_objects.specs.Pairings.{one_lane, same_object, side_place, leads, partner_threads}
+use Rattle.cml_objects.proofs.Pairs.{led_to, do_meet_by_place}
 use Rattle.cml_index.specs.declared.slot.Slot.{Slot}
 use Rattle.cml_index.specs.declared.slot.Slot.TheVariants.{Waiters}
 use Rattle.cml_index.specs.Slot.{met_lane, slot_by, met_at, met_by}

@@ -22,7 +22,7 @@ use Rattle.cml_scan.specs.Order.{place, before, Every, Ascends, IsSorted, base_a
 use Rattle.cml_scan.proofs.Enabling.{other_leaves, own_leaf}
 use Rattle.cml_scan.proofs.Leaving.{filters_swapped, filter-map}
 use Rattle.cml_scan.proofs.Ordered.{Every-weaker, Every-append, Every-passes, offers_ascend}
-use Rattle.cml_channel.specs.Lanes.{is_own, is_others, others, run, with_run}
+use Rattle.cml_objects.specs.Lanes.{is_own, is_others, others, run, with_run}
 use Rattle.cml_index.specs.declared.slot.Slot.{Slot}
 use Rattle.cml_index.specs.Slots.{is_slot, slot_leaves, lane_of}
 use Rattle.cml_index.specs.Posts.{nacks_in}

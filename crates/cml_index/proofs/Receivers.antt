@@ -13,8 +13,8 @@ use Rattle.cml_scan.specs.Order.{IsSorted, base_at}
 use Rattle.cml_scan.specs.World.{PlainEntry}
 use Rattle.cml_scan.proofs.Found.{singles_at, pairs_at, partners_found}
 use Rattle.cml_scan.proofs.Ordered.{offers_ascend}
-use Rattle.cml_channel.specs.declared.lane.PartnerThreads.{PartnerThreads}
-use Rattle.cml_channel.specs.Lanes.{those}
+use Rattle.cml_objects.specs.declared.lane.PartnerThreads.{PartnerThreads}
+use Rattle.cml_objects.specs.Lanes.{those}
 use Rattle.cml_index.specs.declared.slot.Slot.{Slot}
 use Rattle.cml_index.specs.Slot.{met_by}
 use Rattle.cml_index.specs.Slots.{lane_of}

@@ -17,7 +17,7 @@ use Rattle.cml_index.specs.declared.slot.Slot.{Slot}
 use Rattle.cml_index.specs.declared.heads.HeadKind.TheVariants.{Alone, Met}
 use Rattle.cml_scan.specs.Light.{lit_by}
 use Rattle.cml_index.specs.Heads.{is_sought}
-use Rattle.cml_channel.specs.declared.lane.PartnerThreads.{PartnerThreads}
+use Rattle.cml_objects.specs.declared.lane.PartnerThreads.{PartnerThreads}
 use Rattle.cml_index.specs.Slot.{met_by}
 use Rattle.cml_index.specs.Posts.{told}
 use Rattle.cml_index.proofs.Parted.{leaves_all, filter_fewer}

@@ -15,7 +15,7 @@ use Rattle.cml_scan.specs.World.{PlainEntry}
 use Rattle.cml_scan.specs.Order.{is_lit_there, meet_at, IsSorted, base_at}
 use Rattle.cml_scan.specs.Scan.{PlainOffer, leaves_from, offers_of, scan_of, partners_of}
 use Rattle.cml_scan.proofs.Bases.{bases_of_all, bases-wrap, bases-groups_and}
-use Rattle.cml_channel.specs.declared.lane.PartnerThreads.{PartnerThreads}
+use Rattle.cml_objects.specs.declared.lane.PartnerThreads.{PartnerThreads}
 use Rattle.cml_index.specs.declared.slot.Slot.{Slot}
 use Rattle.cml_index.specs.declared.slot.Wait.{Wait}
 use Rattle.cml_index.specs.Slot.{met_by}

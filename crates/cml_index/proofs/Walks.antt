@@ -12,10 +12,10 @@ use Rattle.cml_value.specs.declared.number.Tid.{Tid}
 use Rattle.cml_scan.specs.declared.meet.Place.{Place}
 use Rattle.cml_scan.specs.Order.{before, before_numbers, Every, Ascends}
 use Rattle.cml_scan.proofs.Telling.{same_light_is, same_light_self, light_eq}
-use Rattle.cml_channel.specs.Lanes.{is_own, is_others, others, with_run}
-use Rattle.cml_channel.specs.Pairings.{same_object}
-use Rattle.cml_channel.specs.declared.pairing.PairedId.{PairedId}
-use Rattle.cml_channel.proofs.Pairs.{same_object_is, same_object_self}
+use Rattle.cml_objects.specs.Lanes.{is_own, is_others, others, with_run}
+use Rattle.cml_objects.specs.Pairings.{same_object}
+use Rattle.cml_objects.specs.declared.pairing.PairedId.{PairedId}
+use Rattle.cml_objects.proofs.Pairs.{same_object_is, same_object_self}
 use Rattle.cml_index.specs.declared.slot.Slot.{Slot}
 use Rattle.cml_index.specs.declared.slot.Slot.TheVariants.{Side, Waiters}
 use Rattle.cml_index.specs.declared.slot.Wait.{Wait}

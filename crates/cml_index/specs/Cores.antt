@@ -10,7 +10,7 @@ use Rattle.cml_index.specs.declared.slot.Slot.{Slot}
 use Rattle.cml_index.specs.declared.state.IndexState.{IndexState}
 use Rattle.cml_index.specs.Slots.{lane_at, late_at, room_at, slot_leaves}
 use Rattle.cml_index.specs.Live.{have_side, HasPlace}
-use Rattle.cml_channel.specs.declared.pairing.PairedId.{PairedId}
+use Rattle.cml_objects.specs.declared.pairing.PairedId.{PairedId}
 use Rattle.cml_index.specs.Posts as posts
 use Rattle.cml_index.specs.Posts.{PlainIndex, KeepsPlaces, slot_of, is_named, slot_of_nack}
 

@@ -2,10 +2,10 @@
 use Rattle.std.specs.Prelude.{ℕ, ◌≡◌, ◌+◌, ◌*◌, ◌<◌, ◌≤◌, Bool, true, List, [], ◌∷◌, Option, Some, None, map, filter, length, slice_get}
 use Rattle.std.specs.List.{list_any}
 use Rattle.cml_value.specs.declared.number.Tid.{Tid}
-use Rattle.cml_channel.specs.Lanes.{is_others, is_of}
-use Rattle.cml_channel.specs.Pairings.{partner_threads}
-use Rattle.cml_channel.specs.declared.lane.PartnerThreads.{PartnerThreads}
-use Rattle.cml_channel.specs.declared.pairing.PairedId.{PairedId}
+use Rattle.cml_objects.specs.Lanes.{is_others, is_of}
+use Rattle.cml_objects.specs.Pairings.{partner_threads}
+use Rattle.cml_objects.specs.declared.lane.PartnerThreads.{PartnerThreads}
+use Rattle.cml_objects.specs.declared.pairing.PairedId.{PairedId}
 use Rattle.cml_index.specs.declared.slot.Slot.TheVariants.{Side}
 use Rattle.cml_index.specs.Slots.{lane_of}
 use Rattle.cml_value.specs.Group.{bases}

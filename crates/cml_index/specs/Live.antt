@@ -1,10 +1,10 @@
 -- The objects on which two offers may meet.
 use Rattle.std.specs.Prelude.{ℕ, ◌≡◌, ◌<◌, Bool, true, false, ◌&&◌, ◌||◌, nat_lt, List, ◌++◌, Option, length, map}
 use Rattle.std.specs.List.{list_any, sum_by}
-use Rattle.cml_channel.specs.Pairings.{one_lane}
-use Rattle.cml_channel.specs.declared.pairing.PairedKind.{PairedKind}
-use Rattle.cml_channel.specs.declared.pairing.PairedKind.TheVariants.{Channel, Swap}
-use Rattle.cml_channel.specs.declared.pairing.PairedId.{PairedId}
+use Rattle.cml_objects.specs.Pairings.{one_lane}
+use Rattle.cml_objects.specs.declared.pairing.PairedKind.{PairedKind}
+use Rattle.cml_objects.specs.declared.pairing.PairedKind.TheVariants.{Channel, Swap}
+use Rattle.cml_objects.specs.declared.pairing.PairedId.{PairedId}
 use Rattle.cml_index.specs.declared.slot.Slot.{Slot}
 use Rattle.cml_index.specs.declared.slot.Slot.TheVariants.{Side}
 use Rattle.cml_index.specs.declared.lanes.Lanes.{Lanes}

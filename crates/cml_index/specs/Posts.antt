@@ -24,11 +24,11 @@ use Rattle.cml_value.specs.declared.number.Tid.{Tid}
 use Rattle.std.specs.Borrow.{Bor}
 use Rattle.cml_scan.specs.declared.object.Light.{Light}
 use Rattle.cml_scan.specs.declared.object.Light.TheVariants.{Nack}
-use Rattle.cml_channel.specs.declared.pairing.PairedKind.{PairedKind}
-use Rattle.cml_channel.specs.declared.pairing.PairedKind.TheVariants.{Channel, Swap}
+use Rattle.cml_objects.specs.declared.pairing.PairedKind.{PairedKind}
+use Rattle.cml_objects.specs.declared.pairing.PairedKind.TheVariants.{Channel, Swap}
 use Rattle.cml_index.specs.declared.slot.Slot.{Slot}
 use Rattle.cml_index.specs.declared.slot.Slot.TheVariants.{Side, Waiters}
-use Rattle.cml_channel.specs.Pairings.{side_place}
+use Rattle.cml_objects.specs.Pairings.{side_place}
 use Rattle.cml_index.specs.Slot.{same_slot, slot_by}
 use Rattle.cml_index.specs.Slots.{going_at, lane_of, AreLanes}
 use Rattle.std.specs.List.{flat_map}

@@ -3,10 +3,10 @@ use Rattle.std.specs.Prelude.{Bool, if◌then◌else◌, Option, Some, None, opt
 use Rattle.cml_value.specs.Value.{PlainBase}
 use Rattle.cml_value.specs.declared.number.Tid.{Tid}
 use Rattle.cml_scan.specs.Light.{light}
-use Rattle.cml_channel.specs.declared.lane.PartnerThreads.{PartnerThreads}
-use Rattle.cml_channel.specs.declared.pairing.PairedId.{PairedId}
-use Rattle.cml_channel.specs.declared.pairing.SidePlace.{SidePlace}
-use Rattle.cml_channel.specs.Pairings.{one_lane, side_place, partner_threads}
+use Rattle.cml_objects.specs.declared.lane.PartnerThreads.{PartnerThreads}
+use Rattle.cml_objects.specs.declared.pairing.PairedId.{PairedId}
+use Rattle.cml_objects.specs.declared.pairing.SidePlace.{SidePlace}
+use Rattle.cml_objects.specs.Pairings.{one_lane, side_place, partner_threads}
 use Rattle.cml_index.specs.declared.slot.Slot.{Slot}
 use Rattle.cml_index.specs.declared.slot.Slot.TheVariants.{Side, Waiters}
 use Rattle.cml_index.specs.contracts.slot.SlotPartialEq.TheImpl as derived

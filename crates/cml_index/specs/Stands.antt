@@ -9,9 +9,9 @@ use Rattle.cml_scan.specs.declared.meet.Place.{Place}
 use Rattle.cml_scan.specs.declared.object.Light.{Light}
 use Rattle.cml_scan.specs.declared.object.Light.TheVariants as of
 use Rattle.cml_scan.specs.Order.{Every, Ascends}
-use Rattle.cml_channel.specs.Lanes.{PlainLane, with_run, others, is_own, is_others}
-use Rattle.cml_channel.specs.declared.pairing.PairedKind.{PairedKind}
-use Rattle.cml_channel.specs.declared.pairing.PairedKind.TheVariants.{Channel, Swap}
+use Rattle.cml_objects.specs.Lanes.{PlainLane, with_run, others, is_own, is_others}
+use Rattle.cml_objects.specs.declared.pairing.PairedKind.{PairedKind}
+use Rattle.cml_objects.specs.declared.pairing.PairedKind.TheVariants.{Channel, Swap}
 use Rattle.cml_index.specs.declared.slot.Slot.{Slot}
 use Rattle.cml_index.specs.declared.slot.Slot.TheVariants.{Side, Waiters}
 use Rattle.cml_index.specs.declared.slot.LaneKind.{LaneKind}

@@ -9,9 +9,9 @@ use Rattle.cml_scan.specs.declared.meet.Meet.TheVariants.{Single}
 use Rattle.cml_scan.specs.declared.meet.Place.{Place}
 use Rattle.cml_scan.specs.Light.{is_always}
 use Rattle.cml_scan.specs.Scan.{PlainOffer}
-use Rattle.cml_channel.specs.declared.lane.PartnerThreads.{PartnerThreads}
-use Rattle.cml_channel.specs.Lanes.{is_of, those}
-use Rattle.cml_channel.specs.Pairings.{partner_threads}
+use Rattle.cml_objects.specs.declared.lane.PartnerThreads.{PartnerThreads}
+use Rattle.cml_objects.specs.Lanes.{is_of, those}
+use Rattle.cml_objects.specs.Pairings.{partner_threads}
 use Rattle.cml_index.specs.declared.slot.Slot.{Slot}
 use Rattle.cml_index.specs.declared.slot.Slot.TheVariants.{Side, Waiters}
 use Rattle.cml_index.specs.declared.slot.Wait.{Wait}

@@ -11,7 +11,7 @@ use crate::flags::forget_light;
 use crate::nacks::reserve_lights;
 use crate::slot::Wait;
 use crate::state::IndexState;
-use cml_channel::Tally;
+use cml_objects::Tally;
 use cml_scan::Light;
 use cml_value::{Group, GroupKind, Tid};
 use std::alloc::{AllocError, Global};

@@ -2,14 +2,14 @@
 
 ghost use Rattle.std.specs.{Prelude.{◌≡◌, ◌≤◌, ◌<◌, ◌+◌, ◌*◌, true, false, length, filter, drop, slice_get, Some}, List.{list_any}};
 ghost use Rattle.cml_scan.specs.{declared.meet.Place.{Place}, Order.{Ascends, before}, Scan.{offers_of}};
-ghost use Rattle.cml_channel.specs.{Lanes.{is_others}, declared.lane.PartnerThreads.TheVariants.{Others, Above}};
+ghost use Rattle.cml_objects.specs.{Lanes.{is_others}, declared.lane.PartnerThreads.TheVariants.{Others, Above}};
 ghost use Rattle.cml_index.specs.{declared.heads.HeadKind.TheVariants.{Met}, declared.slot.Slot.TheVariants.{Side}, Slots.{lane_at}};
 ghost use Rattle.cml_index.specs.{Heads.{is_sought, is_beside, met_among, heads_on, head_total}, Live.{objects}, Cores.{IsIndexed}};
 ghost use Rattle.cml_index.specs.Posts as spec;
 
 use crate::slot::Slot;
 use crate::state::IndexState;
-use cml_channel::{Lane, PairedId, PartnerThreads, Tally};
+use cml_objects::{Lane, PairedId, PartnerThreads, Tally};
 use cml_value::Tid;
 
 // The thread of all offers in the lane, if they are of one thread alone: two looks.

@@ -7,7 +7,7 @@ ghost use Rattle.cml_index.specs.Posts as spec;
 
 use crate::slot::{Slot, Wait};
 use crate::told::Told;
-use cml_channel::Tally;
+use cml_objects::Tally;
 use cml_scan::Light;
 use std::alloc::{AllocError, Global};
 use std::marker::Model;

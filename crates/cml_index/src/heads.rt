@@ -3,7 +3,7 @@
 ghost use Rattle.std.specs.{Prelude.{◌≡◌, ◌≤◌, ◌<◌, ◌+◌, ◌*◌, ℕ, length, filter, map, slice_get, Some}, List.{list_any}};
 ghost use Rattle.cml_value.specs.{Group.{bases}, Value.{PlainBase}};
 ghost use Rattle.cml_scan.specs.{Order.{before, place, has_partner}, Scan.{PlainOffer, scan_of, heads_of, offers_of, leaves_from}};
-ghost use Rattle.cml_channel.specs.Lanes.{is_of};
+ghost use Rattle.cml_objects.specs.Lanes.{is_of};
 ghost use Rattle.cml_index.specs.{declared.heads.HeadKind.TheVariants.{Met}, Slots.{lane_of}, Heads.{is_sought, IsSought, EndsThere}, Waits.{leaf_wait}};
 ghost use Rattle.cml_index.specs.Cores.{IsIndexed};
 ghost use Rattle.cml_index.specs.Posts as spec;
@@ -14,7 +14,7 @@ use crate::flags::is_lit_by;
 use crate::one_object::head_on;
 use crate::slot::{Slot, Wait, met_by};
 use crate::state::IndexState;
-use cml_channel::{PartnerThreads, Tally};
+use cml_objects::{PartnerThreads, Tally};
 use cml_scan::Place;
 use cml_value::Tid;
 

@@ -13,7 +13,7 @@ use crate::live::Live;
 use crate::slot::do_meet;
 use crate::state::{self, IndexState};
 use crate::{heads, partners, rows};
-use cml_channel::Tally;
+use cml_objects::Tally;
 use cml_scan::{Light, Meet, Place};
 use cml_value::{Group, Tid};
 use std::alloc::{AllocError, Global};

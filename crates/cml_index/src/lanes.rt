@@ -3,7 +3,7 @@
 ghost use Rattle.std.specs.Prelude.{◌≡◌, ◌≤◌, ◌<◌, ◌+◌, ◌*◌, ◌^◌, ℕ, [], ◌∷◌, ◌++◌, true, false, None, is_some, length, map, filter, OnOk, OnErr};
 ghost use Rattle.std.specs.{Borrow.{sem}, Option.{option_copied}};
 ghost use Rattle.cml_scan.specs.Order.{Every, Ascends, before};
-ghost use Rattle.cml_channel.specs.{Lanes.{is_own, is_others, others, with_run}, declared.pairing.PairedKind.TheVariants.{Swap}};
+ghost use Rattle.cml_objects.specs.{Lanes.{is_own, is_others, others, with_run}, declared.pairing.PairedKind.TheVariants.{Swap}};
 ghost use Rattle.cml_index.specs.{declared.slot.Slot.{Slot}, declared.slot.Slot.TheVariants.{Side, Waiters}, Slot.{same_slot}, Slots.{slot_in}};
 ghost use Rattle.cml_index.specs.Slots as spec;
 ghost use Rattle.cml_index.specs.Stands as stands;
@@ -14,7 +14,7 @@ use crate::stand::{
     forget_tick, forgo_in, forgo_tick, go_in, go_lone_in, go_lone_tick, go_tick, note_in,
     note_tick,
 };
-use cml_channel::{Lane, PairedId, PairedKind, Tally};
+use cml_objects::{Lane, PairedId, PairedKind, Tally};
 use cml_scan::Light;
 use cml_value::Tid;
 use indexmap::IndexMap;

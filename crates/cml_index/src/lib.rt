@@ -23,5 +23,5 @@ mod state;
 mod table;
 mod told;
 
-pub use cml_channel::Tally;
+pub use cml_objects::Tally;
 pub use index::OfferIndex;

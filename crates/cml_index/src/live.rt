@@ -1,7 +1,7 @@
 //! The objects on which two offers may meet: with offers on both sides, or with two where all sides are alike.
 
 ghost use Rattle.std.specs.{Prelude.{◌≡◌, ◌≤◌, ◌<◌, ◌^◌, ◌&&◌, ◌||◌, [], ◌∷◌, true, false, length, map, slice_get, Some, OnOk}, List.{IsDistinct}};
-ghost use Rattle.cml_channel.specs.{Pairings.{same_object, one_lane}, declared.pairing.PairedId.{PairedId}};
+ghost use Rattle.cml_objects.specs.{Pairings.{same_object, one_lane}, declared.pairing.PairedId.{PairedId}};
 ghost use Rattle.cml_index.specs.{declared.slot.Slot.{Slot}, Slots.{slot_in}};
 ghost use Rattle.cml_index.specs.Live as spec;
 
@@ -9,7 +9,7 @@ use crate::head_counts::HeadCounts;
 use crate::lanes::Lanes;
 use crate::numbers::Numbers;
 use crate::slot::{Slot, Wait};
-use cml_channel::{PairedId, PairedKind};
+use cml_objects::{PairedId, PairedKind};
 use std::alloc::{AllocError, Global};
 
 // These objects, by their numbers; of each channel it is kept how many offers can stand first there.

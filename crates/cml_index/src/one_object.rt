@@ -2,7 +2,7 @@
 
 ghost use Rattle.std.specs.Prelude.{◌≡◌, ◌≤◌, ◌<◌, ◌+◌, true, false, length, filter, slice_get, Some};
 ghost use Rattle.cml_scan.specs.{Order.{Ascends, before}, Scan.{offers_of}};
-ghost use Rattle.cml_channel.specs.{Lanes.{is_own, others as of_others}, declared.lane.PartnerThreads.TheVariants.{Others, Above}};
+ghost use Rattle.cml_objects.specs.{Lanes.{is_own, others as of_others}, declared.lane.PartnerThreads.TheVariants.{Others, Above}};
 ghost use Rattle.cml_index.specs.{declared.slot.Slot.TheVariants.{Side}, Slots.{lane_at, lane_of}, Heads.{IsFoundEarly, met_among, heads_on}};
 ghost use Rattle.cml_index.specs.Cores.{IsIndexed};
 ghost use Rattle.cml_index.specs.Posts as spec;
@@ -11,7 +11,7 @@ use crate::counts::only_thread;
 use crate::entries::Entries;
 use crate::slot::{Slot, count_in};
 use crate::state::IndexState;
-use cml_channel::{Lane, PairedId, Tally};
+use cml_objects::{Lane, PairedId, Tally};
 use cml_scan::Place;
 use cml_value::Tid;
 

@@ -2,14 +2,14 @@
 
 ghost use Rattle.std.specs.Prelude.{◌≡◌, ◌≤◌, ◌<◌, ◌+◌, ◌*◌, ◌^◌, ℕ, [], ◌∷◌, map, length, slice_get, slice_index_or, Some, None, IfSome};
 ghost use Rattle.cml_scan.specs.Scan.{scan_of, partners_of, offers_of, place_of};
-ghost use Rattle.cml_channel.specs.Lanes.{those};
+ghost use Rattle.cml_objects.specs.Lanes.{those};
 ghost use Rattle.cml_index.specs.{Heads.{pair_of}, Slots.{lane_of}, Waits.{rows_wait}, Cores.{IsIndexed}};
 ghost use Rattle.cml_index.specs.Posts as spec;
 
 use crate::flags::is_lit_by;
 use crate::slot::{Slot, Wait, met_by};
 use crate::state::{IndexState, wait_at};
-use cml_channel::{Lane, PartnerThreads, Tally};
+use cml_objects::{Lane, PartnerThreads, Tally};
 use cml_scan::{Meet, Place};
 
 // How many offers in the lane are of threads that are meant (`partner_threads`).

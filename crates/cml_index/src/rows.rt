@@ -3,7 +3,7 @@
 ghost use Rattle.std.specs.{Prelude.{◌≡◌, ◌≤◌, ◌<◌, ◌+◌, ◌++◌, length, map, filter, slice_index_or, IfOk}, List.{flat_map}};
 ghost use Rattle.cml_value.specs.{Group.{bases}, Value.{PlainBase}};
 ghost use Rattle.cml_scan.specs.{Light.{lit_by}, Order.{Ascends, before}, Scan.{single, pairs_with, offers_of, leaves_from, scan_of}};
-ghost use Rattle.cml_channel.specs.Lanes.{those};
+ghost use Rattle.cml_objects.specs.Lanes.{those};
 ghost use Rattle.cml_index.specs.{Heads.{pair_of, offer_at}, Slots.{lane_of}, Waits.{leaf_wait}, Cores.{IsIndexed}};
 ghost use Rattle.cml_index.specs.Posts as spec;
 
@@ -12,7 +12,7 @@ use crate::flags::is_lit_by;
 use crate::heads::head_count;
 use crate::slot::{Slot, Wait, met_by};
 use crate::state::IndexState;
-use cml_channel::{Lane, PartnerThreads, Tally};
+use cml_objects::{Lane, PartnerThreads, Tally};
 use cml_scan::{Meet, Place};
 use std::alloc::{AllocError, Global};
 

@@ -4,7 +4,7 @@ ghost use Rattle.std.specs.{Prelude.{◌≡◌, ℕ, length, map}, Option.{optio
 ghost use Rattle.cml_index.specs.{Posts.{slot_of}, Stands.{side_row, light_spot, spot_of}, Slots.{is_slot, slot_leaves, slot_in}};
 ghost use Rattle.cml_index.specs.Waits.{leaf_wait, met_slot, met_wait, meets_in};
 
-use cml_channel::{PairedId, PairedKind, PartnerThreads, place};
+use cml_objects::{PairedId, PairedKind, PartnerThreads, place};
 use cml_scan::{Light, light};
 use cml_value::{Base, BaseKind, Tid};
 

@@ -3,10 +3,10 @@
 ghost use Rattle.indexmap.specs.IndexMap.{get};
 ghost use Rattle.std.specs.Prelude.{◌≡◌, ◌≢◌, ◌≤◌, ◌<◌, ◌==◌, ◌+◌, ◌^◌, ℕ, [], ◌∷◌, ◌++◌, true, false, length, filter, nat_lt, slice_get, is_some, OnOk, OnErr};
 ghost use Rattle.cml_scan.specs.Order.{Every, Ascends};
-ghost use Rattle.cml_channel.specs.Lanes.{is_own, is_others, others, with_run};
+ghost use Rattle.cml_objects.specs.Lanes.{is_own, is_others, others, with_run};
 ghost use Rattle.cml_index.specs.Stands as spec;
 
-use cml_channel::{Lane, Tally};
+use cml_objects::{Lane, Tally};
 use cml_value::Tid;
 use indexmap::IndexMap;
 use std::alloc::{AllocError, Global};

@@ -6,7 +6,7 @@ ghost use Rattle.cml_scan.specs.{declared.object.Light.{Light}, Scan.{offers_of}
 ghost use Rattle.cml_index.specs.{Cores.{IsIndexed, IsAtRest, AreThere, IsSame, IsStill, HasCome, HasFreed, HasRoom}, Live.{have_side, HasPlace}};
 ghost use Rattle.cml_index.specs.{declared.slot.Slot.{Slot}, declared.slot.Slot.TheVariants.{Waiters}, Slots.{HaveDigits, late_at, slot_in}, Waits.{leaf_wait, IsLone}};
 ghost use Rattle.cml_index.specs.Posts as spec;
-ghost use Rattle.cml_channel.specs.declared.pairing.PairedId.{PairedId};
+ghost use Rattle.cml_objects.specs.declared.pairing.PairedId.{PairedId};
 
 use crate::crossing::{crossers, crossers_within};
 use crate::entries::Entries;
@@ -16,7 +16,7 @@ use crate::lanes::Lanes;
 use crate::live::Live;
 use crate::nacks::reserve_nacks;
 use crate::slot::{Slot, Wait};
-use cml_channel::Tally;
+use cml_objects::Tally;
 use cml_scan::{Light, Place};
 use cml_value::{Group, Tid};
 use std::alloc::{AllocError, Global};

@@ -4,7 +4,7 @@ ghost use Rattle.std.specs.Prelude.{true};
 ghost use Rattle.cml_index.specs.Posts as spec;
 
 use crate::index::OfferIndex;
-use cml_channel::Tally;
+use cml_objects::Tally;
 use cml_scan::{Light, Meet, Place, Table};
 use cml_value::{Group, Tid};
 use std::alloc::{AllocError, Global};

@@ -1,7 +1,7 @@
 //! What is said of a thread of which little is known.
 
 use crate::making::MEMORY;
-use cml_ending::{Awaited, Ending, Left, Named, Stands, write_ending};
+use cml_facts::ending::{Awaited, Ending, Left, Named, Stands, write_ending};
 use cml_hub::End;
 use std::rt::HostRuntime;
 

@@ -1,9 +1,7 @@
 //! Who waits at an object in a register, and the clock.
 
 use crate::making::{MEMORY, int};
-use cml_base::{Register, Source};
-use cml_signal::{Clock, Joined};
-use cml_syncvar::IVar;
+use cml_objects::{Clock, IVar, Joined, Register, Source};
 use cml_value::Tid;
 use std::process::Abort;
 

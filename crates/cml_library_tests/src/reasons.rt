@@ -2,7 +2,7 @@
 
 use crate::making::MEMORY;
 use cml_check::{ActOnOne, Binary, Unary};
-use cml_fault::{Part, Reason, push_reason};
+use cml_facts::fault::{Part, Reason, push_reason};
 use cml_step::Fault;
 use cml_value::{Value, ValueKind};
 use std::process::Abort;

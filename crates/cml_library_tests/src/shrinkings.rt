@@ -1,8 +1,8 @@
 //! How many tries it takes to find a shorter schedule that ends alike, which was worked out by hand, and how long two schedules are, in words.
 
 use crate::making::{MEMORY, program_of, scheduled};
+use cml_explore::shrink::{counts_of, push_counts, shrink};
 use cml_hub::Item;
-use cml_shrink::{counts_of, push_counts, shrink};
 use std::process::Abort;
 use std::rt::HostRuntime;
 

@@ -2,8 +2,8 @@
 
 use crate::making::{int, leaf, many};
 use cml_book::Book;
-use cml_channel::Tally;
 use cml_index::OfferIndex;
+use cml_objects::Tally;
 use cml_scan::Meet;
 use cml_value::{BaseKind, ChanId, Tid};
 use std::process::Abort;

@@ -4,7 +4,7 @@ use Rattle.std.specs.List.{suffix_len}
 use Rattle.std.proofs.Math.ListN.{drop_of_length-le}
 use Rattle.std.proofs.lemmas.List.{take_more, drop-append-le, length-take-le, length-drop}
 use Rattle.std.proofs.lemmas.List.Sums.{count_by_more_yes, count_by_more_no, count_by-le-length, sum_by_push, suffix_len-take_yes, suffix_len-take_no, suffix_len-le-length}
-use Rattle.cml_place.specs.Places.{begins_character, characters, is_line_feed, is_inside_line, line_at, column_at, last_line, line_before}
+use Rattle.cml_phrase.specs.Places.{begins_character, characters, is_line_feed, is_inside_line, line_at, column_at, last_line, line_before}
 use Rattle.cml_phrase.specs.declared.place.Place.{Place}
 use Rattle.cml_phrase.specs.Spots.{place_at, place_past}
 

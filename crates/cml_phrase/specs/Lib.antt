@@ -5,3 +5,6 @@ pub mod Spots
 pub mod Phrases
 pub mod Events
 pub mod Views
+pub mod Places
+pub mod Diagnoses
+pub mod Shown

@@ -1,7 +1,7 @@
 -- Where the statements of a script stand, as a person counts lines and columns.
 use Rattle.std.specs.Prelude.{ℕ, ◌+◌, if◌then◌else◌, List, map, slice_get, Option, option_and_then}
 use Rattle.cml_text.specs.Forms.{PlainSexpr, span_of}
-use Rattle.cml_place.specs.Places.{line_at, column_at, is_line_feed, begins_character}
+use Rattle.cml_phrase.specs.Places.{line_at, column_at, is_line_feed, begins_character}
 use Rattle.cml_phrase.specs.declared.place.Place.{Place}
 use Rattle.cml_phrase.specs.Statements.{item_statements}
 

@@ -4,7 +4,7 @@ ghost use Rattle.cml_text.specs.Forms.{span_of};
 ghost use Rattle.cml_phrase.specs.Spots as spec;
 
 use crate::statement::statements;
-use cml_place::{column_at, line_at, split_place};
+use crate::{column_at, line_at, split_place};
 use cml_text::Sexpr;
 use std::alloc::{AllocError, Global};
 

@@ -1,6 +1,6 @@
 //! How values are spoken of.
 
-use cml_place::push_first;
+use crate::push_first;
 use cml_value::Value;
 use std::alloc::{AllocError, Global};
 

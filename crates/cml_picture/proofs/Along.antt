@@ -7,8 +7,8 @@ use Rattle.cml_schedule.specs.declared.item.Item.{Item}
 use Rattle.cml_hub.specs.Courses.{PlainCourse, Adds}
 use Rattle.cml_hub.specs.Runs.{is_allowed}
 use Rattle.cml_phrase.specs.declared.place.Place.{Place}
-use Rattle.cml_narrative.specs.declared.deed.Happened.{Happened}
-use Rattle.cml_narrative.specs.Deeds.{HasHappened}
+use Rattle.cml_facts.specs.declared.narrative.deed.Happened.{Happened}
+use Rattle.cml_facts.specs.Deeds.{HasHappened}
 use Rattle.cml_picture.specs.declared.fault.DrawFault.{DrawFault}
 use Rattle.cml_picture.specs.declared.fault.DrawFault.TheVariants.{BadItem, TooMany, Memory}
 use Rattle.cml_picture.specs.Stacks.{PlainStack, no_rows, with_happened, RefusesShown}

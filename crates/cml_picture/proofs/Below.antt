@@ -4,7 +4,7 @@ use Rattle.std.specs.Prelude.{if◌then◌else◌, nat_le, slice_get}
 use Rattle.cml_value.specs.Value.{PlainFunction}
 use Rattle.cml_scan.specs.World.{PlainThread}
 use Rattle.cml_schedule.specs.declared.item.Item.{Item}
-use Rattle.cml_ending.specs.Waits.{who_is}
+use Rattle.cml_facts.specs.Waits.{who_is}
 use Rattle.cml_picture.specs.Lives.{beginnings, awaits_of, left_at, lefts}
 use Rattle.cml_picture.specs.Parts.{acts, flag_at, takes_part}
 

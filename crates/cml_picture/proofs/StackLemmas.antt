@@ -3,7 +3,7 @@ use Rattle.std.proofs.Common.{◌≡◌, ℕ, ◌+◌, ◌<◌, ◌≤◌, List,
 use Rattle.std.specs.List.{fold}
 use Rattle.std.proofs.lemmas.List.{take_more}
 use Rattle.cml_value.specs.declared.number.NackId.{NackId}
-use Rattle.cml_narrative.specs.declared.deed.Happened.{Happened}
+use Rattle.cml_facts.specs.declared.narrative.deed.Happened.{Happened}
 use Rattle.cml_picture.specs.declared.layout.mark.Mark.{Mark}
 use Rattle.cml_picture.specs.declared.layout.mark.Shape.TheVariants as shape
 use Rattle.cml_picture.specs.declared.sheet.sign.Sign.{Sign}

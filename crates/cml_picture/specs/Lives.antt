@@ -6,9 +6,9 @@ use Rattle.cml_scan.specs.World.{PlainThread, running, pending_on, ended}
 use Rattle.cml_schedule.specs.declared.item.Item.{Item}
 use Rattle.cml_hub.specs.Courses.{PlainCourse}
 use Rattle.cml_hub.specs.Runs.{terminal}
-use Rattle.cml_ending.specs.declared.awaited.Named.{Named}
-use Rattle.cml_ending.specs.Waits.{who_is}
-use Rattle.cml_narrative.specs.Turns.{began_in}
+use Rattle.cml_facts.specs.declared.ending.awaited.Named.{Named}
+use Rattle.cml_facts.specs.Waits.{who_is}
+use Rattle.cml_facts.specs.Turns.{began_in}
 use Rattle.cml_picture.specs.Stacks.{PlainStack, thread_count}
 use Rattle.cml_picture.specs.Parts.{acts, takes_part}
 use Rattle.cml_picture.specs.Sheets.{PlainLeft, PlainSheet}

@@ -1,7 +1,7 @@
 -- What a picture shows.
 use Rattle.std.specs.Prelude.{ℕ, Bool, List, Option}
 use Rattle.cml_value.specs.Value.{PlainBase}
-use Rattle.cml_ending.specs.declared.awaited.Named.{Named}
+use Rattle.cml_facts.specs.declared.ending.awaited.Named.{Named}
 use Rattle.cml_picture.specs.Stacks.{PlainStack}
 
 -- a thread that has not ended, and for what it waits; nothing where it runs

@@ -6,12 +6,12 @@ use Rattle.cml_value.specs.Value.{PlainBase, swap}
 use Rattle.cml_group.specs.declared.flat.Chosen.{Chosen}
 use Rattle.cml_step.specs.declared.ask.Ask.{Ask}
 use Rattle.cml_step.specs.declared.ask.Ask.TheVariants as ask
-use Rattle.cml_narrative.specs.declared.deed.Deed.{Deed}
-use Rattle.cml_narrative.specs.declared.deed.Deed.TheVariants.{Turned as ATurn, Took as ATake, Met as AMeeting, Moved}
-use Rattle.cml_narrative.specs.declared.deed.Turned.{Turned}
-use Rattle.cml_narrative.specs.declared.deed.Came.{Came}
-use Rattle.cml_narrative.specs.declared.deed.Came.TheVariants.{Done, Waits, Failed}
-use Rattle.cml_narrative.specs.declared.deed.Party.{Party}
+use Rattle.cml_facts.specs.declared.narrative.deed.Deed.{Deed}
+use Rattle.cml_facts.specs.declared.narrative.deed.Deed.TheVariants.{Turned as ATurn, Took as ATake, Met as AMeeting, Moved}
+use Rattle.cml_facts.specs.declared.narrative.deed.Turned.{Turned}
+use Rattle.cml_facts.specs.declared.narrative.deed.Came.{Came}
+use Rattle.cml_facts.specs.declared.narrative.deed.Came.TheVariants.{Done, Waits, Failed}
+use Rattle.cml_facts.specs.declared.narrative.deed.Party.{Party}
 use Rattle.cml_picture.specs.declared.layout.mark.Shape.{Shape}
 use Rattle.cml_picture.specs.declared.layout.mark.Shape.TheVariants as shape
 use Rattle.cml_picture.specs.declared.sheet.sign.Sign.{Sign}

@@ -2,7 +2,7 @@
 use Rattle.std.specs.Prelude.{ℕ, ◌+◌, ◌<◌, ◌⊎◌, length, List, [], ◌∷◌, ◌++◌}
 use Rattle.std.specs.List.{fold}
 use Rattle.cml_hub.specs.Courses.{PlainCourse}
-use Rattle.cml_narrative.specs.declared.deed.Happened.{Happened}
+use Rattle.cml_facts.specs.declared.narrative.deed.Happened.{Happened}
 use Rattle.cml_picture.specs.declared.layout.mark.Shape.{Shape}
 use Rattle.cml_picture.specs.declared.layout.mark.Shape.TheVariants.{Print, Nack}
 use Rattle.cml_picture.specs.declared.fault.DrawFault.{DrawFault}

@@ -2,7 +2,7 @@
 
 use crate::streams::{reader_of, taking};
 use cml_host::{Store, run_command};
-use cml_memory::MemoryStore;
+use cml_system::memory::MemoryStore;
 use std::alloc::{AllocError, Global};
 use std::process::Abort;
 use std::sync::Wait;

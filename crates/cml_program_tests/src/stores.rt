@@ -1,7 +1,7 @@
 //! The store in memory, and why a store refuses, in words.
 
 use cml_host::{Reason, Store, StoreFault};
-use cml_memory::MemoryStore;
+use cml_system::memory::MemoryStore;
 use std::process::Abort;
 use std::test::Fail;
 

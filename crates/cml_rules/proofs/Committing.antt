@@ -3,7 +3,7 @@ use Rattle.std.proofs.Common.{◌≡◌, ◌≢◌, ℕ, ◌<◌, Bool, true, fa
 use Rattle.std.specs.Prelude.{slice_get, slice_set}
 use Rattle.cml_value.specs.Value.{PlainValue, PlainFunction, PlainBase}
 use Rattle.cml_value.specs.Group.{PlainGroup, leaves, lost}
-use Rattle.cml_channel.specs.Handed.{handed}
+use Rattle.cml_objects.specs.Handed.{handed}
 use Rattle.cml_scan.specs.World.{running, PlainNack, fired, held, PlainWorld}
 use Rattle.cml_scan.specs.Scan.{scan, has_row}
 use Rattle.cml_scan.specs.declared.meet.Meet.{Meet}

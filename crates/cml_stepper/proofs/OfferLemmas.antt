@@ -6,7 +6,7 @@ use Rattle.std.proofs.lemmas.Bool.Decides.{nat_tests}
 use Rattle.cml_value.specs.Value.{PlainFunction, PlainBase, mtake, mget, mswap, join}
 use Rattle.cml_scan.specs.World.{PlainWorld}
 use Rattle.cml_scan.specs.declared.meet.Meet.{Meet}
-use Rattle.cml_ending.specs.Waits.{awaited_event, object_state, thread_behind, who_is}
+use Rattle.cml_facts.specs.Waits.{awaited_event, object_state, thread_behind, who_is}
 use Rattle.cml_stepper.specs.declared.offer.Rows.{Rows}
 use Rattle.cml_stepper.specs.Offers.{AreRows, no_taker, offered_row}
 

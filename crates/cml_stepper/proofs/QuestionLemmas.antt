@@ -7,8 +7,8 @@ use Rattle.cml_hub.specs.Courses.{run_of}
 use Rattle.cml_hub.specs.Kept.{Kept}
 use Rattle.cml_hub.specs.Runs.{terminal, ending}
 use Rattle.cml_phrase.specs.declared.place.Place.{Place}
-use Rattle.cml_ending.specs.declared.ending.Ending.{Ending}
-use Rattle.cml_ending.specs.Ends.{IsEnding}
+use Rattle.cml_facts.specs.declared.ending.ending.Ending.{Ending}
+use Rattle.cml_facts.specs.Ends.{IsEnding}
 use Rattle.cml_stepper.specs.declared.question.Next.TheVariants as next
 use Rattle.cml_stepper.specs.declared.question.Offers.{Offers}
 use Rattle.cml_stepper.specs.Questions.{is_still, AreOffers, ComesNext}

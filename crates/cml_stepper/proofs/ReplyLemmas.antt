@@ -21,8 +21,8 @@ use Rattle.cml_hub.specs.Kept.{Kept}
 use Rattle.cml_hub.specs.Playing.{taking}
 use Rattle.cml_hub.specs.Runs.{is_allowed, any_runs, is_empty, next_alarm, has_number}
 use Rattle.cml_phrase.specs.declared.place.Place.{Place}
-use Rattle.cml_narrative.specs.Turns.{began_in}
-use Rattle.cml_narrative.specs.Whys.{first_running}
+use Rattle.cml_facts.specs.Turns.{began_in}
+use Rattle.cml_facts.specs.Whys.{first_running}
 use Rattle.cml_stepper.specs.declared.line.Typed.{Typed}
 use Rattle.cml_stepper.specs.declared.line.Typed.TheVariants as typed
 use Rattle.cml_stepper.specs.declared.offer.Rows.{Rows}

@@ -4,9 +4,9 @@ use Rattle.cml_value.specs.Value.{PlainBase, PlainFunction}
 use Rattle.cml_scan.specs.World.{PlainWorld}
 use Rattle.cml_scan.specs.declared.meet.Meet.{Meet}
 use Rattle.cml_scan.specs.declared.meet.Meet.TheVariants.{Single, Pair}
-use Rattle.cml_ending.specs.declared.awaited.AwaitedEvent.{AwaitedEvent}
-use Rattle.cml_ending.specs.Takes.{leaf_waited}
-use Rattle.cml_ending.specs.Waits.{who_is, awaited_event}
+use Rattle.cml_facts.specs.declared.ending.awaited.AwaitedEvent.{AwaitedEvent}
+use Rattle.cml_facts.specs.Takes.{leaf_waited}
+use Rattle.cml_facts.specs.Waits.{who_is, awaited_event}
 use Rattle.cml_stepper.specs.declared.offer.Offer.{Offer}
 use Rattle.cml_stepper.specs.declared.offer.Row.{Row}
 use Rattle.cml_stepper.specs.declared.offer.Rows.{Rows}

@@ -10,7 +10,7 @@ use Rattle.cml_schedule.specs.declared.item.Item.TheVariants.{Turn, Meet as Comm
 use Rattle.cml_book.specs.Walks.{is_running}
 use Rattle.cml_hub.specs.Runs.{next_alarm}
 use Rattle.cml_hub.specs.Playing.{taking}
-use Rattle.cml_narrative.specs.Whys.{first_running}
+use Rattle.cml_facts.specs.Whys.{first_running}
 use Rattle.cml_stepper.specs.declared.line.Typed.{Typed}
 use Rattle.cml_stepper.specs.declared.line.Typed.TheVariants as typed
 

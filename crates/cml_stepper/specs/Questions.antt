@@ -9,11 +9,11 @@ use Rattle.cml_hub.specs.Courses.{PlainCourse}
 use Rattle.cml_hub.specs.Kept.{Kept}
 use Rattle.cml_hub.specs.Runs.{terminal, next_alarm}
 use Rattle.cml_phrase.specs.declared.place.Place.{Place}
-use Rattle.cml_ending.specs.declared.standing.Spot.{Spot}
-use Rattle.cml_ending.specs.Standings.{AreSpots, spot_at, spot_place}
-use Rattle.cml_ending.specs.Waits.{who_is}
-use Rattle.cml_ending.specs.Ends.{IsEnding}
-use Rattle.cml_narrative.specs.Turns.{began_in}
+use Rattle.cml_facts.specs.declared.ending.standing.Spot.{Spot}
+use Rattle.cml_facts.specs.Standings.{AreSpots, spot_at, spot_place}
+use Rattle.cml_facts.specs.Waits.{who_is}
+use Rattle.cml_facts.specs.Ends.{IsEnding}
+use Rattle.cml_facts.specs.Turns.{began_in}
 use Rattle.cml_stepper.specs.declared.question.Ready.{Ready}
 use Rattle.cml_stepper.specs.declared.question.Offers.{Offers}
 use Rattle.cml_stepper.specs.declared.question.Next.{Next}

@@ -10,11 +10,11 @@ use Rattle.cml_hub.specs.Courses.{PlainCourse, run_of, Adds}
 use Rattle.cml_hub.specs.Kept.{Kept}
 use Rattle.cml_hub.specs.Runs.{stands}
 use Rattle.cml_phrase.specs.declared.place.Place.{Place}
-use Rattle.cml_ending.specs.Ends.{IsEnding}
-use Rattle.cml_narrative.specs.declared.deed.Happened.{Happened}
-use Rattle.cml_narrative.specs.Deeds.{HasHappened}
-use Rattle.cml_narrative.specs.Turns.{began_in}
-use Rattle.cml_narrative.specs.Whys.{item_why}
+use Rattle.cml_facts.specs.Ends.{IsEnding}
+use Rattle.cml_facts.specs.declared.narrative.deed.Happened.{Happened}
+use Rattle.cml_facts.specs.Deeds.{HasHappened}
+use Rattle.cml_facts.specs.Turns.{began_in}
+use Rattle.cml_facts.specs.Whys.{item_why}
 use Rattle.cml_stepper.specs.declared.line.Typed.{Typed}
 use Rattle.cml_stepper.specs.declared.line.Typed.TheVariants as typed
 use Rattle.cml_stepper.specs.declared.question.Question.{Question}

@@ -2,7 +2,7 @@
 use Rattle.std.specs.Prelude.{List}
 use Rattle.cml_hub.specs.Courses.{PlainCourse}
 use Rattle.cml_phrase.specs.declared.place.Place.{Place}
-use Rattle.cml_narrative.specs.Narrators.{places_of, Knows}
+use Rattle.cml_facts.specs.Narrators.{places_of, Knows}
 use Rattle.cml_stepper.specs.declared.stepper.Stepper.{Stepper}
 
 -- where the statements of its script stand

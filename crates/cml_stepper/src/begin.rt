@@ -6,7 +6,7 @@ ghost use Rattle.cml_phrase.specs.Spots.{all_places};
 ghost use Rattle.cml_stepper.specs.Steppers.{places_known, FollowsTo};
 
 use crate::stepper::Stepper;
-use cml_narrative::Narrator;
+use cml_facts::narrative::Narrator;
 use cml_text::Sexpr;
 use std::alloc::{AllocError, Global};
 

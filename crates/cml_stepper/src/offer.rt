@@ -1,15 +1,15 @@
 //! Rows that can be taken, as values.
 
 ghost use Rattle.std.specs.Prelude.{◌≡◌, IfOk, map, take};
-ghost use Rattle.cml_ending.specs.Takes.{leaf_waited};
-ghost use Rattle.cml_ending.specs.Waits as waits;
-ghost use Rattle.cml_narrative.specs.Turns.{began_in};
+ghost use Rattle.cml_facts.specs.Takes.{leaf_waited};
+ghost use Rattle.cml_facts.specs.Waits as waits;
+ghost use Rattle.cml_facts.specs.Turns.{began_in};
 ghost use Rattle.cml_stepper.specs.Offers.{AreRows};
 ghost use Rattle.cml_stepper.specs.Offers as spec;
 
-use cml_ending::{AwaitedEvent, Named, Takers, awaited_event, who_is};
+use cml_facts::ending::{AwaitedEvent, Named, Takers, awaited_event, who_is};
+use cml_facts::narrative::leaves_of;
 use cml_hub::Hub;
-use cml_narrative::leaves_of;
 use cml_scan::{Meet, Place, leaf_bases};
 use cml_value::Base;
 use std::alloc::{AllocError, Global};

@@ -1,9 +1,9 @@
 //! The question before each answer.
 
 ghost use Rattle.std.specs.Prelude.{◌≡◌, ◌+◌, IfOk, length, map, take};
-ghost use Rattle.cml_ending.specs.Ends.{IsEnding};
+ghost use Rattle.cml_facts.specs.Ends.{IsEnding};
 ghost use Rattle.cml_hub.specs.Runs.{terminal};
-ghost use Rattle.cml_narrative.specs.Turns.{began_in};
+ghost use Rattle.cml_facts.specs.Turns.{began_in};
 ghost use Rattle.cml_scan.specs.Scan.{scan};
 ghost use Rattle.cml_stepper.specs.{Questions.{AreOffers, ComesNext, IsQuestion}, Steppers.{places_known}};
 ghost use Rattle.cml_stepper.specs.Questions as spec;
@@ -14,10 +14,10 @@ use crate::ready::ready_threads;
 use crate::rows::rows_in;
 use crate::stepper::Stepper;
 use cml_book::Book;
-use cml_ending::{Ending, Named, Spot, ending_of, place_of, spots_of, who_is};
+use cml_facts::ending::{Ending, Named, Spot, ending_of, place_of, spots_of, who_is};
+use cml_facts::narrative::next_tick;
 use cml_hub::{End, Hub};
 use cml_index::OfferIndex;
-use cml_narrative::next_tick;
 use cml_phrase::Place;
 use cml_scan::Meet;
 use std::alloc::{AllocError, Global};

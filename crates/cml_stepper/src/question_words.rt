@@ -2,7 +2,7 @@
 
 use crate::offer::{Offer, Row, Rows};
 use crate::question::{Next, Offers, Question, Ready};
-use cml_ending::{Ending, push_awaited_event, push_named, push_number, write_ending};
+use cml_facts::ending::{Ending, push_awaited_event, push_named, push_number, write_ending};
 use cml_phrase::push_line;
 use cml_text::Sexpr;
 use std::alloc::{AllocError, Global};

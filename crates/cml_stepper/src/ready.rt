@@ -1,14 +1,14 @@
 //! The threads that run.
 
 ghost use Rattle.std.specs.Prelude.{◌≡◌, ◌++◌, ◌∷◌, [], if◌then◌else◌, IfOk, OnOk, drop};
-ghost use Rattle.cml_narrative.specs.Whys as whys;
+ghost use Rattle.cml_facts.specs.Whys as whys;
 ghost use Rattle.cml_stepper.specs.Questions.{running_from};
 ghost use Rattle.cml_stepper.specs.Picks as spec;
 
 use cml_book::Book;
+use cml_facts::narrative::first_running;
 use cml_hub::{Hub, Item};
 use cml_index::OfferIndex;
-use cml_narrative::first_running;
 use cml_value::Tid;
 use std::alloc::{AllocError, Global};
 

@@ -2,7 +2,7 @@
 
 ghost use Rattle.std.specs.Prelude.{◌≡◌, ◌+◌, IfOk, OnOk, true, length, drop};
 ghost use Rattle.cml_hub.specs.{Courses.{Adds}, Kept.{NoneOut}, Runs.{is_allowed}};
-ghost use Rattle.cml_narrative.specs.Deeds.{HasHappened};
+ghost use Rattle.cml_facts.specs.Deeds.{HasHappened};
 ghost use Rattle.cml_scan.specs.Scan.{scan};
 ghost use Rattle.cml_stepper.specs.Steppers.{places_known, FollowsTo};
 ghost use Rattle.cml_stepper.specs.Replies.{AnswersLine, DoneAt, IsGone, IsListed, Lists, Undoes, UndoesLast, TakesNamed};
@@ -17,10 +17,10 @@ use crate::question::{Question, next_number};
 use crate::rows::rows_in;
 use crate::stepper::Stepper;
 use cml_book::Book;
-use cml_ending::Ending;
+use cml_facts::ending::Ending;
+use cml_facts::narrative::{Happened, Why, why_not};
 use cml_hub::{Hub, Item};
 use cml_index::OfferIndex;
-use cml_narrative::{Happened, Why, why_not};
 use cml_scan::Meet;
 use cml_value::Tid;
 use std::alloc::{AllocError, Global};

@@ -4,8 +4,8 @@ use crate::question_words::{
     push_ended, push_numbered_line, push_prompt, push_question, push_rows,
 };
 use crate::reply::{Reply, Stay};
+use cml_facts::narrative::{push_happened, push_why};
 use cml_hub::Item;
-use cml_narrative::{push_happened, push_why};
 use cml_text::Sexpr;
 use std::alloc::{AllocError, Global};
 

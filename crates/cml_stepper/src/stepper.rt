@@ -1,10 +1,10 @@
 //! What is needed to go through a run by hand.
 
 ghost use Rattle.std.specs.Prelude.{◌≡◌};
-ghost use Rattle.cml_narrative.specs.Narrators.{places_of};
+ghost use Rattle.cml_facts.specs.Narrators.{places_of};
 ghost use Rattle.cml_phrase.specs.Spots.{all_places};
 
-use cml_narrative::Narrator;
+use cml_facts::narrative::Narrator;
 use cml_text::Sexpr;
 
 /// What is needed to go through a run by hand: the text of its script and its forms, and who tells its items.

@@ -2,12 +2,12 @@
 
 ghost use Rattle.std.specs.Prelude.{◌≡◌, ◌≤◌, ◌∷◌, ◌++◌, IfOk, OnOk, OnErr, [], true, take, length};
 ghost use Rattle.cml_hub.specs.{Kept.{NoneOut}, Runs.{is_allowed}};
-ghost use Rattle.cml_narrative.specs.Narrators.{places_of, Knows};
+ghost use Rattle.cml_facts.specs.Narrators.{places_of, Knows};
 ghost use Rattle.cml_stepper.specs.{Replies.{LeadsBack}, Steppers.{places_known, FollowsTo}};
 
 use crate::stepper::Stepper;
+use cml_facts::narrative::Narrator;
 use cml_hub::{Hub, Item};
-use cml_narrative::Narrator;
 use std::alloc::{AllocError, AllocFailed, Global};
 use std::mem;
 

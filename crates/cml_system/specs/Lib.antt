@@ -1,1 +1,2 @@
 pub mod Systems
+pub mod Files

@@ -1,14 +1,15 @@
 //! The program over the system: its files as a store, and the arguments of its command line.
 #![tactic(auto)]
 
+mod disk;
+pub mod memory;
+mod reason;
+mod saving;
+
 ghost use Rattle.std.specs.Prelude.{◌≡◌, ◌≤◌, IfOk, OnErr};
 ghost use Rattle.cml_host.specs.{Between.{between}, Statuses.{Surroundings}};
 ghost use Rattle.cml_system.specs.Systems.{RanOnSystem, NothingCalled, files};
 ghost use Rattle.cml_trace.specs.Live.{max_turns};
-
-mod disk;
-mod reason;
-mod saving;
 
 use cml_host::{Open, run_command_counted, say};
 use cml_stream::Counting;

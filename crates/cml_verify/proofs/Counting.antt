@@ -22,8 +22,8 @@ use Rattle.cml_scan.specs.World.{PlainThread, running, pending_on, ended, PlainW
 use Rattle.cml_scan.specs.Light.{is_full}
 use Rattle.cml_scan.specs.declared.meet.Meet.{Meet}
 use Rattle.cml_scan.specs.declared.meet.Meet.TheVariants.{Single, Pair}
-use Rattle.cml_queues.specs.Queues.{is_full_at, added_at}
-use Rattle.cml_queues.specs.Posts.{any_is_full, posted}
+use Rattle.cml_objects.specs.Queues.{is_full_at, added_at}
+use Rattle.cml_objects.specs.Posts.{any_is_full, posted}
 use Rattle.cml_step.specs.Asks as ask
 use Rattle.cml_step.specs.Asks.{PlainAsk, a_value, a_nack}
 use Rattle.cml_step.specs.Calls.{text_of}

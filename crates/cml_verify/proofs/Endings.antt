@@ -4,7 +4,7 @@ use Rattle.std.proofs.lemmas.List.Elements.{All-push, All-weaker, Contains-appen
 use Rattle.std.proofs.lemmas.Option.{same_Some}
 use Rattle.std.specs.List.{All}
 use Rattle.cml_hub.specs.Runs.{terminal}
-use Rattle.cml_search.proofs.Places.{all_at, either_way, get_push_cases}
+use Rattle.cml_verify.specs.Places.{all_at, either_way, get_push_cases}
 use Rattle.cml_verify.specs.Kept.{PlainKept}
 use Rattle.cml_verify.specs.Ends.{EachEndIsAmong}
 

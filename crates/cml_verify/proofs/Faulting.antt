@@ -17,9 +17,9 @@ use Rattle.cml_step.specs.Terms.{Program, Term}
 use Rattle.cml_hub.specs.Performed.{PlainDone, goes, gets, spawns, prints, waits, ends, fails, performed}
 use Rattle.cml_hub.specs.Runs.{Run, stands, is_allowed, after_item, advance, turned_by}
 use Rattle.cml_hub.specs.Deeds.{deed, after_deed, is_fault}
-use Rattle.cml_search.specs.Systems.{System, run}
-use Rattle.cml_search.specs.Searches.{IsLonger, LeadsOnBy, IsEdge, AreEdges}
-use Rattle.cml_search.proofs.Places.{there, place_of, either_way, get_push_cases}
+use Rattle.cml_verify.specs.Systems.{System, run}
+use Rattle.cml_verify.specs.Searches.{IsLonger, LeadsOnBy, IsEdge, AreEdges}
+use Rattle.cml_verify.specs.Places.{there, place_in, either_way, get_push_cases}
 use Rattle.cml_verify.specs.Cores.{Past, past, more, Core, core_of, run_at, done_by, core_step, whose_turn, program_system}
 use Rattle.cml_verify.specs.Kept.{PlainKept, core_kept}
 use Rattle.cml_verify.specs.Verdicts.{IsWithin}
@@ -162,7 +162,7 @@ module _ (p : List (PlainItem ℕ)) (s : Bool) (keys : List PlainKept) where
     made_for f has =
         let one = there schedules has.0 (omega (arith, made.count, has.1)) in
         let q = made.each has.0 one.0 one.1 in
-        let same : q.0 ≡ f = same_Some q.0 f (sym q.1 ∙ place_of told f has) in
+        let same : q.0 ≡ f = same_Some q.0 f (sym q.1 ∙ place_in told f has) in
         record { one = one.0; has = contains_at schedules has.0 one.0 one.1; so = subst (λ g. IsScheduleBy y states g one.0) same q.2 }
 
     module _ (followed : ℕ) (edges : List (ℕ × Item × ℕ)) (graph : AreEdges y false followed states edges []) (noted : All (EdgeIsNoted p s keys told) edges)

@@ -10,3 +10,17 @@ pub mod Unending
 pub mod Faulting
 pub mod Digesting
 pub mod States
+pub mod Runs
+pub mod Closed
+pub mod Quiet
+pub mod Following
+pub mod Rounds
+pub mod Back
+pub mod Ends
+pub mod Views
+pub mod Listing
+pub mod Local
+pub mod Broad
+pub mod Deep
+pub mod Edges
+pub mod Marking

@@ -12,7 +12,7 @@ use Rattle.cml_value.specs.Value.{PlainValue}
 use Rattle.cml_scan.specs.World.{PlainWorld}
 use Rattle.cml_schedule.specs.declared.item.Item.TheVariants.{Turn}
 use Rattle.cml_book.specs.Commit.{held_in}
-use Rattle.cml_search.proofs.Places.{there}
+use Rattle.cml_verify.specs.Places.{there}
 use Rattle.cml_verify.specs.Cores.{turns}
 
 pub taken_next : {X : Type 0} (xs : List X) (k : ℕ) (x : X) → slice_get xs k ≡ Some x → take (k + 1) xs ≡ take k xs ++ x ∷ []

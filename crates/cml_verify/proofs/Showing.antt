@@ -9,7 +9,7 @@ use Rattle.cml_scan.specs.World.{PlainThread, running, pending_on, ended}
 use Rattle.cml_book.specs.Walks.{runs}
 use Rattle.cml_book.specs.Threads.{flat_of}
 use Rattle.cml_book.specs.Holding.{item_in}
-use Rattle.cml_search.proofs.Places.{there}
+use Rattle.cml_verify.specs.Places.{there}
 
 pub runs_is : (o : Option PlainThread) → option_map_or runs o false ≡ true → o ≡ Some running
 runs_is None h = absurd (true≢false (sym h))

@@ -8,9 +8,9 @@ use Rattle.cml_check.specs.Syntax.{PlainItem}
 use Rattle.cml_schedule.specs.declared.item.Item.{Item}
 use Rattle.cml_step.specs.Calls.{text_of}
 use Rattle.cml_hub.specs.Runs.{Run, stands}
-use Rattle.cml_search.specs.Systems.{System, run}
-use Rattle.cml_search.specs.Searches.{IsSought}
-use Rattle.cml_search.proofs.Places.{there, place_of, all_at, mapped_has}
+use Rattle.cml_verify.specs.Systems.{System, run}
+use Rattle.cml_verify.specs.Searches.{IsSought}
+use Rattle.cml_verify.specs.Places.{there, place_in, all_at, mapped_has}
 use Rattle.cml_verify.specs.Cores.{Core, past, core_of, program_system}
 use Rattle.cml_verify.specs.Ends.{AreSchedulesTo}
 use Rattle.cml_verify.specs.Kept.{PlainKept, core_kept, state_code}
@@ -119,7 +119,7 @@ module _ (p : List (PlainItem ℕ)) (with_output : Bool) (keys : List PlainKept)
         let a = past (text_of p) schedule in
         let leads : run y y.start schedule ≡ Some (core_of with_output a r) = runs_core (text_of p) with_output schedule ∙ ap (option_map (core_of with_output a)) h in
         let has = all schedule (core_of with_output a r) within (leads, λ f. absurd (true≢false (sym f))) in
-        let b = mapped_behind (core_kept p) keys has.0 (core_of with_output a r) (place_of cores (core_of with_output a r) has) in
+        let b = mapped_behind (core_kept p) keys has.0 (core_of with_output a r) (place_in cores (core_of with_output a r) has) in
         let kept : Contains keys b.0 = (has.0, slice_get_within keys has.0 b.0 b.1, get_or_from_slice_get keys has.0 b.0 b.0 b.1) in
         (state_kept b.0, mapped_has state_kept keys b.0 kept, stands_so schedule b.0 (leads ∙ ap (λ c. Some c) (sym b.2)))
 

@@ -9,8 +9,8 @@ use Rattle.cml_hub.specs.Courses.{PlainCourse, run_of, Adds}
 use Rattle.cml_hub.specs.Kept.{Kept as Hub}
 use Rattle.cml_hub.specs.Runs.{Run, stands, opening, is_allowed, after_item}
 use Rattle.cml_hub.proofs.Standing.{leads_on}
-use Rattle.cml_search.specs.Systems.{System, run, LeadsTo, IsSchedule}
-use Rattle.cml_search.proofs.Runs.{begins, run-cons}
+use Rattle.cml_verify.specs.Systems.{System, run, LeadsTo, IsSchedule}
+use Rattle.cml_verify.proofs.Runs.{begins, run-cons}
 use Rattle.cml_verify.specs.Cores.{Past, past, more, Core, core_of, run_at, done_by, allowed, program_system}
 use Rattle.cml_verify.specs.Kept.{PlainKept, core_kept, KeepsCourse, IsAfter}
 use Rattle.cml_verify.proofs.Viewed.{runs_core, same_allowed}

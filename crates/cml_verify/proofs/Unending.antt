@@ -9,11 +9,11 @@ use Rattle.cml_check.specs.Syntax.{PlainItem}
 use Rattle.cml_schedule.specs.declared.item.Item.{Item}
 use Rattle.cml_step.specs.Terms.{Program}
 use Rattle.cml_hub.specs.Runs.{Run, stands, terminal}
-use Rattle.cml_search.specs.Systems.{System, run, IsReached, CanReach}
-use Rattle.cml_search.specs.Searches.{AreFewest}
-use Rattle.cml_search.specs.Marks.{ArePlacesOf}
-use Rattle.cml_search.proofs.Places.{either_way}
-use Rattle.cml_search.proofs.Runs.{begins, run-cons}
+use Rattle.cml_verify.specs.Systems.{System, run, IsReached, CanReach}
+use Rattle.cml_verify.specs.Searches.{AreFewest}
+use Rattle.cml_verify.specs.Marks.{ArePlacesOf}
+use Rattle.cml_verify.specs.Places.{either_way}
+use Rattle.cml_verify.proofs.Runs.{begins, run-cons}
 use Rattle.cml_verify.specs.Cores.{Core, past, core_of, program_system}
 use Rattle.cml_verify.specs.Verdicts.{RunEnd, EndsIn, HasEnd}
 use Rattle.cml_verify.specs.Ends.{IsEndAt, EachEndIsAmong}

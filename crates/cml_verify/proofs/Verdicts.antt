@@ -9,9 +9,9 @@ use Rattle.cml_check.specs.Syntax.{PlainItem}
 use Rattle.cml_schedule.specs.declared.item.Item.{Item}
 use Rattle.cml_step.specs.Calls.{text_of}
 use Rattle.cml_hub.specs.Runs.{stands, terminal}
-use Rattle.cml_search.specs.Systems.{System, run}
-use Rattle.cml_search.specs.Searches.{IsSought, AreFewest}
-use Rattle.cml_search.proofs.Places.{there, place_of, either_way, get_push_cases}
+use Rattle.cml_verify.specs.Systems.{System, run}
+use Rattle.cml_verify.specs.Searches.{IsSought, AreFewest}
+use Rattle.cml_verify.specs.Places.{there, place_in, either_way, get_push_cases}
 use Rattle.cml_verify.specs.Cores.{Core, past, core_of, program_system}
 use Rattle.cml_verify.specs.Ends.{IsEndAt, EachEndIsAmong, AreSchedulesTo}
 use Rattle.cml_verify.specs.Kept.{PlainKept, core_kept}
@@ -134,7 +134,7 @@ module _ (p : List (PlainItem ℕ)) (with_output : Bool) (keys : List PlainKept)
     told_at k c =
         let one = there told c.0 (omega (arith, t.count, c.1)) in
         let s = t.each c.0 one.0 one.1 in
-        let same : s.0 ≡ k = same_Some s.0 k (sym s.1 ∙ place_of places k c) in
+        let same : s.0 ≡ k = same_Some s.0 k (sym s.1 ∙ place_in places k c) in
         subst IsToldAt same (record { one = one.0; has = (c.0, slice_get_within told c.0 one.0 one.1, get_or_from_slice_get told c.0 one.0 one.0 one.1); leads = s.2; fewest = s.3 })
 
     -- one that ends at this core, and has no more items than the schedule
@@ -166,4 +166,4 @@ module _ (p : List (PlainItem ℕ)) (with_output : Bool) (keys : List PlainKept)
         let c = all schedule q.core within q.is in
         let stop : terminal q.core.world ≡ true = ap (λ (x : RunEnd). terminal x.world) q.end ∙ h.over in
         subst (λ (x : RunEnd). (one : List Item) × Contains told one × EndsIn (text_of p) with_output one x × (length one ≤ length schedule)) q.end
-        (first_place among schedule q.core q.is stop (suc c.0) c.0 (omega arith) (place_of states q.core c))
+        (first_place among schedule q.core q.is stop (suc c.0) c.0 (omega arith) (place_in states q.core c))

@@ -13,7 +13,7 @@ use Rattle.cml_step.specs.Slices.{sliced}
 use Rattle.cml_hub.specs.Runs.{Run, opening, is_allowed, after_item, advance, turned_by, stands, stands_from}
 use Rattle.cml_hub.specs.Performed.{PlainDone}
 use Rattle.cml_hub.specs.Deeds.{deed, after_deed, deeds_from, deeds, begotten, is_fault, origins}
-use Rattle.cml_search.specs.Systems.{run}
+use Rattle.cml_verify.specs.Systems.{run}
 use Rattle.cml_verify.specs.Cores.{Past, past, more, Core, core_of, run_at, core_step, done_by, can, candidates, allowed, program_system}
 
 -- the core of a turn, whatever was used

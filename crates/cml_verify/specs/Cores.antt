@@ -11,7 +11,7 @@ use Rattle.cml_step.specs.Terms.{Program, Term}
 use Rattle.cml_hub.specs.Runs.{Run, opening, advance, next_alarm}
 use Rattle.cml_hub.specs.Performed.{PlainDone}
 use Rattle.cml_hub.specs.Deeds.{deed, after_deed, begotten, is_fault, origins, fault_count}
-use Rattle.cml_search.specs.Systems.{System}
+use Rattle.cml_verify.specs.Systems.{System}
 use Rattle.cml_verify.specs.Verdicts.{output_if}
 
 -- what is known of the turns so far: with which function each thread began, and how many ended at a fault

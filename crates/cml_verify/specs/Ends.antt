@@ -2,8 +2,8 @@
 use Rattle.std.specs.Prelude.{◌≡◌, ℕ, ◌<◌, true, false, List, Some, length, slice_get, Contains}
 use Rattle.cml_schedule.specs.declared.item.Item.{Item}
 use Rattle.cml_hub.specs.Runs.{terminal}
-use Rattle.cml_search.specs.Systems.{System, run}
-use Rattle.cml_search.specs.Searches.{AreFewest}
+use Rattle.cml_verify.specs.Systems.{System, run}
+use Rattle.cml_verify.specs.Searches.{AreFewest}
 use Rattle.cml_verify.specs.Cores.{Core}
 use Rattle.cml_verify.specs.Kept.{PlainKept}
 

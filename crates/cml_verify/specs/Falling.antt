@@ -7,8 +7,8 @@ use Rattle.cml_schedule.specs.declared.item.Item.TheVariants.{Turn}
 use Rattle.cml_step.specs.Calls.{text_of}
 use Rattle.cml_step.specs.Machines.{PlainMachine}
 use Rattle.cml_step.specs.Terms.{Program}
-use Rattle.cml_search.specs.Systems.{System, run}
-use Rattle.cml_search.specs.Searches.{AreFewest, IsFoundBefore}
+use Rattle.cml_verify.specs.Systems.{System, run}
+use Rattle.cml_verify.specs.Searches.{AreFewest, IsFoundBefore}
 use Rattle.cml_verify.specs.Cores.{Core, core_step}
 use Rattle.cml_verify.specs.Faults.{turn_of}
 use Rattle.cml_verify.specs.Kept.{PlainKept, core_kept}

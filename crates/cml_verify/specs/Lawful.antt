@@ -16,8 +16,8 @@ use Rattle.cml_schedule.specs.declared.item.Item.TheVariants.{Turn, Meet as Comm
 use Rattle.cml_step.specs.Terms.{Program}
 use Rattle.cml_hub.specs.Runs.{Run, after_item, is_allowed, advance, next_alarm, has_number, any_runs, is_empty}
 use Rattle.cml_hub.proofs.RowLemmas.{row_there}
-use Rattle.cml_search.specs.Systems.{ListsAllowed, IsLawful}
-use Rattle.cml_search.proofs.Places.{mapped_has, place_of}
+use Rattle.cml_verify.specs.Systems.{ListsAllowed, IsLawful}
+use Rattle.cml_verify.specs.Places.{mapped_has, place_in}
 use Rattle.cml_verify.specs.Cores.{more, Core, core_of, run_at, core_step, done_by, can, turns, alarm_of, candidates, allowed, program_system}
 
 -- what passes the test stays
@@ -35,7 +35,7 @@ module _ {X : Type 0} (test : X → Bool) where
   filter_at (y ∷ xs) (suc k) x h e = one_more x y xs (test y) refl (filter_at xs k x h e)
 
   pub filter_has : (xs : List X) (x : X) → Contains xs x → test x ≡ true → Contains (filter test xs) x
-  filter_has xs x c e = filter_at xs c.0 x (place_of xs x c) e
+  filter_has xs x c e = filter_at xs c.0 x (place_in xs x c) e
 
 range_has : (n t : ℕ) → t < n → Contains (range_with_len 0 n) t
 range_has n t h = (t, omega (arith, length-range_with_len 0 n, h), get_or-range_with_len 0 n t t h ∙ omega arith)

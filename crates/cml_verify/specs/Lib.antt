@@ -8,3 +8,9 @@ pub mod Digests
 pub mod Placed
 pub mod Faults
 pub mod Falling
+pub mod Systems
+pub mod Laws
+pub mod Searches
+pub mod Marks
+pub mod Threads
+pub mod Places

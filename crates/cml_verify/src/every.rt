@@ -3,7 +3,7 @@
 ghost use Rattle.std.specs.Prelude.{◌≡◌, ◌<◌, ◌≤◌, ◌+◌, [], ℕ, List, Some, IfNone, IfOk, IfSome, IsTrue, true, false, Contains, length, map, option_map, slice_get};
 ghost use Rattle.std.specs.List.{All};
 ghost use Rattle.cml_schedule.specs.declared.item.Item.{Item};
-ghost use Rattle.cml_search.specs.{Systems.{run, IsReached}, Searches.{IsSearch, IsSought, AreEdges}, Marks.{ArePlacesOf}};
+ghost use Rattle.cml_verify.specs.{Systems.{run, IsReached}, Searches.{IsSearch, IsSought, AreEdges}, Marks.{ArePlacesOf}};
 ghost use Rattle.cml_hub.specs.Runs.{terminal};
 ghost use Rattle.cml_step.specs.Calls.{text_of};
 ghost use Rattle.cml_verify.specs.{Cores.{Core, program_system}, Ends.{AreSchedulesTo}, Kept.{core_kept}, Placed.{AreThreadsIn}, Verdicts.{IsWithin, IsVerdict}, Faults.{AreFaults, NeverEnds, CanAlwaysEnd, IsUnending}, Falling.{AreFollowed}};
@@ -13,9 +13,9 @@ use crate::faults::all_faults;
 use crate::kept::Kept;
 use crate::placed::are_placed;
 use crate::schedules::Schedules;
+use crate::search::{Found, Gap, all_states, cut_off, reach, schedule_to};
 use cml_check::Prog;
 use cml_hub::Item;
-use cml_search::{Found, Gap, all_states, cut_off, reach, schedule_to};
 use std::alloc::Global;
 
 /// What a search of every schedule found.

@@ -2,14 +2,14 @@
 
 ghost use Rattle.std.specs.Prelude.{◌≡◌, ◌<◌, ◌≤◌, ◌++◌, ◌∷◌, [], ◌⊎◌, ℕ, Option, IfOk, IsTrue, OnOk, Some, false, length, map, slice_get};
 ghost use Rattle.std.specs.{List.{All}, Option.{option_copied}};
-ghost use Rattle.cml_search.specs.Searches.{IsLonger, IsSearch, IsEdge, AreEdges};
+ghost use Rattle.cml_verify.specs.Searches.{IsLonger, IsSearch, IsEdge, AreEdges};
 ghost use Rattle.cml_step.specs.Calls.{text_of};
 ghost use Rattle.cml_verify.specs.{Cores.{program_system}, Kept.{PlainKept, core_kept}, Faults.{AreFaults}, Falling.{FallsFrom, stood_at, IsFallNoted, EdgeIsNoted, IsScheduleBy, AreSchedulesBy, AreFollowed}};
 
 use crate::kept::Kept;
 use crate::schedules::Schedules;
+use crate::search::{Found, Gap, schedule_to};
 use cml_hub::Item;
-use cml_search::{Found, Gap, schedule_to};
 use cml_step::Machine;
 use cml_value::Tid;
 use std::alloc::{AllocError, Global};

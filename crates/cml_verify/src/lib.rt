@@ -11,6 +11,7 @@ mod placed;
 mod read;
 mod same;
 mod schedules;
+pub mod search;
 
-pub use cml_search::Gap;
+pub use crate::search::Gap;
 pub use every::{Verdict, outcomes, verify};

@@ -2,15 +2,15 @@
 
 ghost use Rattle.std.specs.Prelude.{◌≡◌, Bool, IfOk};
 ghost use Rattle.cml_hub.specs.Kept.{NoneOut};
-ghost use Rattle.cml_search.specs.Systems.{IsSchedule};
+ghost use Rattle.cml_verify.specs.Systems.{IsSchedule};
 ghost use Rattle.cml_step.specs.Calls.{text_of};
 ghost use Rattle.cml_verify.specs.{Cores.{Core, program_system}, Kept.{core_kept, IsAfter, kept_same}, Lawful.{is_lawful}};
 
 use crate::allowed::allowed_here;
 use crate::kept::{Kept, keep};
+use crate::search::{Gap, System};
 use cml_check::Prog;
 use cml_hub::{Hub, Item, ReplayFault};
-use cml_search::{Gap, System};
 use std::alloc::{AllocError, Global};
 
 /// All schedules of a program.

@@ -25,8 +25,8 @@ use Rattle.cml_index.specs.contracts.index.OfferIndex as OfferIndex
 use Rattle.cml_index.specs.contracts.entries.Entries as Entries
 use Rattle.cml_index.specs.contracts.entry.Entry as Entry
 use Rattle.cml_index.specs.contracts.entry.Spare as Spare
-use Rattle.cml_base.specs.contracts.register.Register as Register
-use Rattle.cml_signal.specs.contracts.clock.Clock as Clock
+use Rattle.cml_objects.specs.contracts.register.Register as Register
+use Rattle.cml_objects.specs.contracts.clock.Clock as Clock
 use Rattle.cml_book.specs.contracts.state.State as State
 use Rattle.cml_book.specs.contracts.book.Book as Book
 use Rattle.cml_step.specs.contracts.entries.Frame.TheKnot as frame

@@ -2,12 +2,12 @@
 
 ghost use Rattle.std.specs.{Prelude.{◌≡◌, ◌++◌, ◌||◌, nat_le, IfOk, OnOk, map, slice_get}, Option.{option_map}};
 ghost use Rattle.cml_hub.specs.Runs.{terminal};
-ghost use Rattle.cml_narrative.specs.Turns.{began_in};
+ghost use Rattle.cml_facts.specs.Turns.{began_in};
 ghost use Rattle.cml_picture.specs.{Parts.{flag_at}, Stacks.{thread_count}, Views.{plain_left}};
 ghost use Rattle.cml_picture.specs.Lives as spec;
 
 use super::flags::is_set;
-use cml_ending::{Named, who_is};
+use cml_facts::ending::{Named, who_is};
 use cml_hub::{End, Hub};
 use cml_scan::leaf_bases;
 use cml_value::{Base, Tid};

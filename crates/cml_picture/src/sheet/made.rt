@@ -11,9 +11,9 @@ use super::left::{Left, beginnings_of, is_quiet, lefts_of};
 use super::shown::{items_within, show_range};
 use super::stack::Stack;
 use crate::fault::DrawFault;
-use cml_ending::Named;
+use cml_facts::ending::Named;
+use cml_facts::narrative::Narrator;
 use cml_hub::{Hub, Item};
-use cml_narrative::Narrator;
 use cml_text::Sexpr;
 use std::alloc::{AllocError, Global};
 

@@ -2,15 +2,15 @@
 
 ghost use Rattle.std.specs.Prelude.{◌≡◌, ◌+◌, ◌∷◌, [], IfOk, IfErr, OnOk, drop, length, take};
 ghost use Rattle.cml_hub.specs.{Courses.{Adds}, Kept.{NoneOut}};
-ghost use Rattle.cml_narrative.specs.Narrators.{Knows, places_of};
+ghost use Rattle.cml_facts.specs.Narrators.{Knows, places_of};
 ghost use Rattle.cml_picture.specs.{Draws.{IsRangeShown, ItemsLead, IsNotDrawn, Shows}, Stacks.{no_rows}, Stops.{Halts, HaltsOf, Stops, StopsOf}};
 ghost use Rattle.cml_picture.specs.Views.{plain_stack};
 ghost use Rattle.cml_picture.specs.Draws as spec;
 
 use super::stack::Stack;
 use crate::fault::DrawFault;
+use cml_facts::narrative::Narrator;
 use cml_hub::{Hub, Item};
-use cml_narrative::Narrator;
 use std::alloc::Global;
 
 // The first `count` of these.

@@ -4,7 +4,7 @@ ghost use Rattle.std.specs.Prelude.{◌≡◌, ◌++◌, ◌∷◌, [], IfOk, On
 ghost use Rattle.cml_picture.specs.Signs as spec;
 
 use crate::layout::Shape;
-use cml_narrative::{Came, Deed, Party, Took, Turned};
+use cml_facts::narrative::{Came, Deed, Party, Took, Turned};
 use cml_step::Ask;
 use cml_value::{Base, BaseKind, NackId};
 use std::alloc::{AllocError, Global};

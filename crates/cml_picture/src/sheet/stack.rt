@@ -3,7 +3,7 @@
 ghost use Rattle.std.specs.Prelude.{◌≡◌, ◌≤◌};
 ghost use Rattle.cml_picture.specs.Stacks.{bottom_of};
 
-use cml_narrative::Happened;
+use cml_facts::narrative::Happened;
 
 /// What the items did so far that show something, how far below the top the next row begins, and how many rows were counted.
 #[derive(Drop)]

@@ -8,7 +8,7 @@ use super::sign::{Sign, signs_of};
 use super::stack::Stack;
 use crate::fault::DrawFault;
 use crate::layout::{Shape, row_height};
-use cml_narrative::Happened;
+use cml_facts::narrative::Happened;
 use std::alloc::{AllocError, Global};
 
 // How many rows a picture has at most.

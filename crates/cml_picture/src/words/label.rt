@@ -2,11 +2,12 @@
 
 use crate::layout::Shape;
 use crate::sheet::Sign;
-use cml_ending::{Named, push_named};
+use cml_facts::ending::{Named, push_named};
+use cml_facts::narrative::{Came, Deed, Happened, Met, Took, Turned, push_happened};
 use cml_group::Chosen;
-use cml_narrative::{Came, Deed, Happened, Met, Took, Turned, push_happened};
-use cml_phrase::{ObjectState, Told, push_began, push_event, push_numbered, push_value};
-use cml_place::push_first;
+use cml_phrase::{
+    ObjectState, Told, push_began, push_event, push_first, push_numbered, push_value,
+};
 use cml_step::Ask;
 use cml_text::Sexpr;
 use cml_value::{Base, BaseKind, FnRef, NackId, Value, ValueKind};

@@ -6,8 +6,8 @@ ghost use Rattle.cml_picture.specs.{Layouts.{AreStacked, top_row}, Signs.{signs_
 use super::label::Speaker;
 use crate::layout::{Mark, Shape, row_height};
 use crate::sheet::{Left, Sheet, Sign, Stack, signs_of};
-use cml_ending::Named;
-use cml_narrative::Happened;
+use cml_facts::ending::Named;
+use cml_facts::narrative::Happened;
 use cml_value::Base;
 use std::alloc::AllocError;
 

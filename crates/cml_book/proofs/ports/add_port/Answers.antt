@@ -1,6 +1,6 @@
 use Rattle.std.proofs.Common.{rules, refl, ◌≡◌, ◌∙◌, ◌++◌, ◌∷◌, [], ℕ, suc, List, length, ap, arith}
 use Rattle.std.proofs.lemmas.List.{length_push, map-append}
-use Rattle.cml_queues.specs.PlainQueue.{PlainQueue}
+use Rattle.cml_objects.specs.PlainQueue.{PlainQueue}
 use Rattle.cml_value.specs.declared.number.McastId.{McastId}
 use Rattle.cml_book.specs.MakePort.{with_port}
 use Rattle.cml_book.specs.Views.{ports_of, queues_of}

@@ -1,5 +1,5 @@
 use Rattle.std.proofs.Common.{◌≡◌, ◌++◌, drop}
-use Rattle.cml_queues.specs.Posts.{port_numbers, unread}
+use Rattle.cml_objects.specs.Posts.{port_numbers, unread}
 use Rattle.cml_book.specs.Homes.{first_lights}
 use Rattle.cml_book.proofs.ports.unlit_ports.Given as goal
 

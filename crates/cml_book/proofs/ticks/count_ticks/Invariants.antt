@@ -1,6 +1,6 @@
 use Rattle.std.proofs.Common.{◌≡◌, ◌+◌, ℕ, take}
 use Rattle.cml_value.specs.Group.{bases}
-use Rattle.cml_signal.specs.Clocks.{leaves_at}
+use Rattle.cml_objects.specs.Clocks.{leaves_at}
 use Rattle.cml_book.specs.Keeping.{times_awaited}
 use Rattle.cml_book.proofs.ticks.count_ticks.Given as goal
 

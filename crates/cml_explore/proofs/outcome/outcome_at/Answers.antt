@@ -1,5 +1,5 @@
 use Rattle.std.proofs.Common.{◌∙◌, rules}
-use Rattle.cml_fault.specs.FallViews.{fall_in}
+use Rattle.cml_facts.specs.FallViews.{fall_in}
 use Rattle.cml_hub.specs.Courses.{run_of}
 use Rattle.cml_explore.proofs.OutcomeLemmas.{ends_fallen}
 use Rattle.cml_explore.proofs.outcome.outcome_at.Goals as goal

@@ -1,7 +1,7 @@
 use Rattle.std.proofs.Common.{◌∷◌, ◌++◌, [], ◌∙◌, ap, arith}
 use Rattle.std.specs.Prelude.{is_some}
-use Rattle.cml_ending.proofs.ThreadLemmas.{no_thread_more, one_thread_more}
-use Rattle.cml_fault.specs.FallViews.{fall_in}
+use Rattle.cml_facts.proofs.ThreadLemmas.{no_thread_more, one_thread_more}
+use Rattle.cml_facts.specs.FallViews.{fall_in}
 use Rattle.cml_explore.proofs.OutcomeLemmas.{ends_made}
 use Rattle.cml_explore.proofs.outcome.thread_ends.Goals as goal
 

@@ -1,6 +1,6 @@
 use Rattle.std.proofs.Common.{◌≡◌, ◌++◌, drop}
 use Rattle.std.specs.Prelude.{is_some}
-use Rattle.cml_fault.specs.FallViews.{fall_in}
+use Rattle.cml_facts.specs.FallViews.{fall_in}
 use Rattle.cml_explore.specs.Outcomes.{ends_from}
 use Rattle.cml_explore.proofs.outcome.thread_ends.Given as goal
 

@@ -1,7 +1,7 @@
 use Rattle.std.proofs.Common.{◌+◌, ◌<◌, ℕ, length, subst, sym, ap, ◌∙◌}
 use Rattle.std.proofs.lemmas.List.{length_push}
-use Rattle.cml_ending.specs.Standings.{IsSpotOf, spot_at}
-use Rattle.cml_fault.specs.FallViews.{fall_in}
+use Rattle.cml_facts.specs.Standings.{IsSpotOf, spot_at}
+use Rattle.cml_facts.specs.FallViews.{fall_in}
 use Rattle.cml_explore.specs.Sights.{call_of_thread}
 use Rattle.cml_explore.proofs.SightLemmas.{spot_more}
 use Rattle.cml_explore.proofs.sight.spots_of.Goals as goal

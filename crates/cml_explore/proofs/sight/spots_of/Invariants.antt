@@ -1,6 +1,6 @@
 use Rattle.std.proofs.Common.{◌≡◌, ◌<◌, ℕ, length}
-use Rattle.cml_ending.specs.Standings.{IsSpotOf, spot_at}
-use Rattle.cml_fault.specs.FallViews.{fall_in}
+use Rattle.cml_facts.specs.Standings.{IsSpotOf, spot_at}
+use Rattle.cml_facts.specs.FallViews.{fall_in}
 use Rattle.cml_explore.specs.Sights.{call_of_thread}
 use Rattle.cml_explore.proofs.sight.spots_of.Given as goal
 

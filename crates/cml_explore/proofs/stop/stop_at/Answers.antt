@@ -1,7 +1,7 @@
 use Rattle.std.proofs.Common.{◌≡◌, ap, subst, sym, ◌∙◌}
 use Rattle.std.specs.Prelude.{Option, option_map}
-use Rattle.cml_seed.specs.SeedRuns.{IsSeedRun}
-use Rattle.cml_seed.specs.declared.order.Order.{Order}
+use Rattle.cml_explore.specs.SeedRuns.{IsSeedRun}
+use Rattle.cml_explore.specs.declared.seed.order.Order.{Order}
 use Rattle.cml_explore.proofs.StopLemmas.{stop_so}
 use Rattle.cml_explore.proofs.stop.stop_at.Goals as goal
 

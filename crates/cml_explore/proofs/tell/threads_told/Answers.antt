@@ -1,5 +1,5 @@
 use Rattle.std.proofs.Common.{map, subst, sym}
-use Rattle.cml_fault.specs.FallViews.{fall_in}
+use Rattle.cml_facts.specs.FallViews.{fall_in}
 use Rattle.cml_explore.specs.Sights.{AreSpotsToTell}
 use Rattle.cml_explore.proofs.SightLemmas.{threads_seen}
 use Rattle.cml_explore.proofs.tell.threads_told.Goals as goal

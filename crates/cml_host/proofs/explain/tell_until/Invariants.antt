@@ -1,6 +1,6 @@
 use Rattle.std.proofs.Common.{◌≡◌}
 use Rattle.cml_hub.specs.Kept.{NoneOut}
-use Rattle.cml_narrative.specs.Narrators.{Knows}
+use Rattle.cml_facts.specs.Narrators.{Knows}
 use Rattle.cml_stream.specs.Streams.{stream}
 use Rattle.cml_host.proofs.StoryLemmas.{Goes}
 use Rattle.cml_host.proofs.explain.tell_until.Given as goal

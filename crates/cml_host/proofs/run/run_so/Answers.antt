@@ -4,7 +4,7 @@ use Rattle.cml_host.specs.Orders.{order_said}
 use Rattle.cml_host.specs.Replies.{passage}
 use Rattle.cml_host.specs.Running.{RunsSo, plain_saving}
 use Rattle.cml_host.specs.Stores.{Shelf}
-use Rattle.cml_seed.specs.declared.order.Order.{Order}
+use Rattle.cml_explore.specs.declared.seed.order.Order.{Order}
 use Rattle.cml_host.proofs.RanLemmas.{somehow_so}
 use Rattle.cml_host.proofs.run.run_so.Goals as goal
 

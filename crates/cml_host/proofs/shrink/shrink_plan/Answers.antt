@@ -1,8 +1,8 @@
 use Rattle.std.proofs.Common.{rules, ◌≡◌, List, subst}
 use Rattle.cml_hub.specs.Kept.{IsFirstBad}
 use Rattle.cml_schedule.specs.declared.item.Item.{Item}
-use Rattle.cml_shrink.specs.Ends.{IsRefused}
-use Rattle.cml_shrink.specs.declared.fault.ShrinkFault.{ShrinkFault}
+use Rattle.cml_explore.specs.ShrinkEnds.{IsRefused}
+use Rattle.cml_explore.specs.declared.shrink.fault.ShrinkFault.{ShrinkFault}
 use Rattle.cml_host.proofs.ItemLemmas.{bad_within}
 use Rattle.cml_host.proofs.shrink.shrink_plan.Goals as goal
 

@@ -1,8 +1,8 @@
 use Rattle.std.proofs.Common.{◌≡◌, ◌<◌, length, Some, None, ap, sym, subst, ◌∙◌, arith}
 use Rattle.cml_scan.specs.declared.meet.Place.{Place}
 use Rattle.std.specs.List.{list_any}
-use Rattle.cml_channel.specs.declared.lane.PartnerThreads.TheVariants.{Others}
-use Rattle.cml_channel.specs.Lanes.{is_others}
+use Rattle.cml_objects.specs.declared.lane.PartnerThreads.TheVariants.{Others}
+use Rattle.cml_objects.specs.Lanes.{is_others}
 use Rattle.cml_index.specs.Heads.{is_beside}
 use Rattle.cml_index.proofs.Beside.{among_is, all_stay, none_among, power_above}
 use Rattle.cml_index.proofs.counts.count_among.Goals as goal

@@ -1,5 +1,5 @@
 use Rattle.std.proofs.Common.{length, ap, sym}
-use Rattle.cml_channel.specs.declared.lane.PartnerThreads.TheVariants.{Others}
+use Rattle.cml_objects.specs.declared.lane.PartnerThreads.TheVariants.{Others}
 use Rattle.cml_index.specs.Slots.{lane_at}
 use Rattle.cml_index.proofs.Beside.{none_among}
 use Rattle.cml_index.proofs.counts.count_beside.Goals as goal

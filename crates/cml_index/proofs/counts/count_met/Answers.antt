@@ -4,7 +4,7 @@ use Rattle.std.proofs.lemmas.List.{at_drop_more, at_drop_all}
 use Rattle.cml_scan.specs.Scan.{offers_of}
 use Rattle.cml_scan.specs.Order.{has_partner}
 use Rattle.cml_index.specs.declared.slot.Slot.TheVariants.{Side}
-use Rattle.cml_channel.specs.declared.pairing.PairedId.{PairedId}
+use Rattle.cml_objects.specs.declared.pairing.PairedId.{PairedId}
 use Rattle.cml_index.specs.Heads.{heads_on}
 use Rattle.cml_index.specs.Live.{objects}
 use Rattle.cml_index.proofs.Parted.{filter_fewer}

@@ -1,8 +1,8 @@
 use Rattle.std.proofs.Common.{◌≡◌, true, false, cond, length, ap, sym, subst, ◌∙◌}
 use Rattle.cml_scan.specs.Order.{Ascends, before}
 use Rattle.cml_scan.specs.Scan.{offers_of}
-use Rattle.cml_channel.specs.declared.lane.PartnerThreads.TheVariants.{Others, Above}
-use Rattle.cml_channel.specs.Pairings.{one_lane}
+use Rattle.cml_objects.specs.declared.lane.PartnerThreads.TheVariants.{Others, Above}
+use Rattle.cml_objects.specs.Pairings.{one_lane}
 use Rattle.cml_index.specs.declared.slot.Slot.TheVariants.{Side}
 use Rattle.cml_index.specs.Slots.{lane_of}
 use Rattle.cml_index.specs.Heads.{met_among}

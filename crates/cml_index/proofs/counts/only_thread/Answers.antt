@@ -1,6 +1,6 @@
 use Rattle.std.proofs.Common.{◌≡◌, ◌-◌, get_or, length, ap, sym, ◌∙◌}
 use Rattle.cml_scan.specs.declared.meet.Place.{Place}
-use Rattle.cml_channel.specs.Lanes.{is_others}
+use Rattle.cml_objects.specs.Lanes.{is_others}
 use Rattle.cml_index.proofs.Beside.{alone, several}
 use Rattle.cml_index.proofs.counts.only_thread.Goals as goal
 

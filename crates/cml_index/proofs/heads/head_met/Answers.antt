@@ -4,7 +4,7 @@ use Rattle.std.specs.List.{filter, IsDistinct}
 use Rattle.std.proofs.lemmas.List.{length-map}
 use Rattle.cml_scan.specs.Order.{place, before, has_partner}
 use Rattle.cml_scan.specs.Scan.{offers_of}
-use Rattle.cml_channel.specs.Pairings.{same_object}
+use Rattle.cml_objects.specs.Pairings.{same_object}
 use Rattle.cml_index.specs.declared.slot.Slot.TheVariants.{Side}
 use Rattle.cml_index.specs.Posts.{slot_of}
 use Rattle.cml_index.specs.Live.{objects}

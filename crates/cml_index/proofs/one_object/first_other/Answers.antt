@@ -5,7 +5,7 @@ use Rattle.std.proofs.lemmas.Bool.Decides.{nat_tests}
 use Rattle.std.proofs.lemmas.Option.{slice_get_read}
 use Rattle.cml_value.specs.declared.number.Tid.{Tid}
 use Rattle.cml_scan.specs.declared.meet.Place.{Place}
-use Rattle.cml_channel.specs.Lanes.{is_own, is_others, others}
+use Rattle.cml_objects.specs.Lanes.{is_own, is_others, others}
 use Rattle.cml_index.proofs.Parted.{filter_fewer}
 use Rattle.cml_index.proofs.Others.{any_default, other_behind}
 use Rattle.cml_index.proofs.OneObject.{behind_at, own_and_others}

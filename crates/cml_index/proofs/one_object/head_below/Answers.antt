@@ -3,8 +3,8 @@ use Rattle.std.specs.Prelude.{slice_get}
 use Rattle.std.specs.List.{list_any}
 use Rattle.std.proofs.lemmas.Option.{slice_get_read}
 use Rattle.cml_scan.specs.declared.meet.Place.{Place}
-use Rattle.cml_channel.specs.declared.lane.PartnerThreads.TheVariants.{Above}
-use Rattle.cml_channel.specs.Lanes.{is_of}
+use Rattle.cml_objects.specs.declared.lane.PartnerThreads.TheVariants.{Above}
+use Rattle.cml_objects.specs.Lanes.{is_of}
 use Rattle.cml_index.proofs.Parted.{filter_fewer}
 use Rattle.cml_index.proofs.Beside.{above_among}
 use Rattle.cml_index.proofs.OneObject.{behind_at, low_get}

@@ -3,7 +3,7 @@ use Rattle.std.specs.Prelude.{slice_get}
 use Rattle.std.specs.List.{filter, list_any}
 use Rattle.std.proofs.lemmas.Option.{slice_get_read}
 use Rattle.cml_scan.specs.declared.meet.Place.{Place}
-use Rattle.cml_channel.specs.Lanes.{is_own, is_others}
+use Rattle.cml_objects.specs.Lanes.{is_own, is_others}
 use Rattle.cml_index.specs.Heads.{is_beside}
 use Rattle.cml_index.proofs.Beside.{among_is, all_stay}
 use Rattle.cml_index.proofs.OneObject.{behind_at, own_and_others}

@@ -1,6 +1,6 @@
 use Rattle.std.proofs.Common.{◌≡◌, ◌∙◌, true, false, [], length, ap, sym, subst, arith}
 use Rattle.cml_scan.specs.Order.{Ascends, before}
-use Rattle.cml_channel.specs.declared.lane.PartnerThreads.TheVariants.{Others}
+use Rattle.cml_objects.specs.declared.lane.PartnerThreads.TheVariants.{Others}
 use Rattle.cml_index.specs.declared.slot.Slot.TheVariants.{Side}
 use Rattle.cml_index.specs.Slots.{lane_at}
 use Rattle.cml_index.specs.Heads.{met_among}

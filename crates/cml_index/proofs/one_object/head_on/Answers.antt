@@ -2,8 +2,8 @@ use Rattle.std.proofs.Common.{rules, ◌≡◌, ◌<◌, true, false, cond, leng
 use Rattle.std.specs.Prelude.{slice_get}
 use Rattle.cml_scan.specs.Order.{Ascends, before}
 use Rattle.cml_scan.specs.Scan.{offers_of}
-use Rattle.cml_channel.specs.declared.lane.PartnerThreads.TheVariants.{Others, Above}
-use Rattle.cml_channel.specs.Pairings.{one_lane}
+use Rattle.cml_objects.specs.declared.lane.PartnerThreads.TheVariants.{Others, Above}
+use Rattle.cml_objects.specs.Pairings.{one_lane}
 use Rattle.cml_index.specs.declared.slot.Slot.TheVariants.{Side}
 use Rattle.cml_index.specs.Slots.{lane_at, lane_of}
 use Rattle.cml_index.specs.Heads.{met_among, heads_on}

@@ -3,7 +3,7 @@ use Rattle.std.specs.Prelude.{slice_get}
 use Rattle.std.specs.List.{filter}
 use Rattle.std.proofs.lemmas.Option.{slice_get_read}
 use Rattle.cml_scan.specs.declared.meet.Place.{Place}
-use Rattle.cml_channel.specs.Lanes.{is_own, others}
+use Rattle.cml_objects.specs.Lanes.{is_own, others}
 use Rattle.cml_index.proofs.Walks.{others_all}
 use Rattle.cml_index.proofs.Parted.{lt_is, ge_is}
 use Rattle.cml_index.proofs.Others.{any_default, other_before, other_behind}

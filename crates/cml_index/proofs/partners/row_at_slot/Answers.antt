@@ -1,7 +1,7 @@
 use Rattle.std.proofs.Common.{◌≡◌, ◌∙◌, [], ◌∷◌, map, ap, sym, subst}
 use Rattle.std.specs.Prelude.{IfSome}
 use Rattle.std.specs.Option.{option_copied}
-use Rattle.cml_channel.specs.Lanes.{those}
+use Rattle.cml_objects.specs.Lanes.{those}
 use Rattle.cml_index.specs.Heads.{pair_of}
 use Rattle.cml_index.specs.Stands as stands
 use Rattle.cml_index.proofs.partners.row_at_slot.Goals as goal

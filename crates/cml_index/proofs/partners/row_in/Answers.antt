@@ -1,6 +1,6 @@
 use Rattle.std.proofs.Common.{◌≡◌, ◌∙◌, ◌≤◌, ◌<◌, [], ◌∷◌, map, length, ap, sym, subst, arith}
 use Rattle.std.specs.Prelude.{IfSome}
-use Rattle.cml_channel.specs.Lanes.{those}
+use Rattle.cml_objects.specs.Lanes.{those}
 use Rattle.cml_index.specs.Heads.{pair_of}
 use Rattle.cml_index.proofs.Alone.{one_only}
 use Rattle.cml_index.proofs.partners.row_in.Goals as goal

@@ -1,7 +1,7 @@
 use Rattle.std.proofs.Common.{◌≡◌, true, false, nat_lt, get_or, length, ap, sym, ◌∙◌, arith}
 use Rattle.cml_scan.specs.declared.meet.Place.{Place}
-use Rattle.cml_channel.specs.Lanes.{those}
-use Rattle.cml_channel.proofs.Counts.{above_behind}
+use Rattle.cml_objects.specs.Lanes.{those}
+use Rattle.cml_objects.proofs.Counts.{above_behind}
 use Rattle.cml_index.proofs.Parted.{lt_is, ge_is}
 use Rattle.cml_index.proofs.Others.{any_default, other_before, other_behind}
 use Rattle.cml_index.proofs.rows.other_in.Goals as goal

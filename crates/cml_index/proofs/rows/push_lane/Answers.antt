@@ -1,5 +1,5 @@
 use Rattle.std.proofs.Common.{◌≤◌, length, arith}
-use Rattle.cml_channel.specs.Lanes.{is_of, those}
+use Rattle.cml_objects.specs.Lanes.{is_of, those}
 use Rattle.cml_index.proofs.Parted.{filter_fewer}
 use Rattle.cml_index.proofs.rows.push_lane.Goals as goal
 

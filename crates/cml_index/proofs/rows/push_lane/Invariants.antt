@@ -1,5 +1,5 @@
 use Rattle.std.proofs.Common.{◌≡◌, ◌++◌, drop, map}
-use Rattle.cml_channel.specs.Lanes.{those}
+use Rattle.cml_objects.specs.Lanes.{those}
 use Rattle.cml_index.specs.Heads.{pair_of}
 use Rattle.cml_index.proofs.rows.push_lane.Given as goal
 

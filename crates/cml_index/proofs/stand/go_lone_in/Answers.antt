@@ -2,7 +2,7 @@ use Rattle.std.proofs.Common.{◌≡◌, ◌<◌, ◌≤◌, ◌^◌, ℕ, zero,
 use Rattle.std.specs.Prelude.{slice_get}
 use Rattle.std.specs.List.{filter}
 use Rattle.std.proofs.lemmas.Option.{slice_get_read}
-use Rattle.cml_channel.specs.Lanes.{is_own}
+use Rattle.cml_objects.specs.Lanes.{is_own}
 use Rattle.cml_index.specs.Stands.{places_in}
 use Rattle.cml_index.proofs.stand.go_lone_in.Goals as goal
 

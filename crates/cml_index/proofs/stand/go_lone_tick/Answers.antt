@@ -1,7 +1,7 @@
 use Rattle.std.proofs.Common.{rules, ◌≡◌, ◌<◌, ◌^◌, length, Some, nat_eq, subst}
 use Rattle.std.specs.List.{filter}
 use Rattle.indexmap.specs.IndexMap.{get}
-use Rattle.cml_channel.specs.Lanes.{is_own}
+use Rattle.cml_objects.specs.Lanes.{is_own}
 use Rattle.cml_index.specs.Stands.{places_in}
 use Rattle.cml_index.proofs.stand.go_lone_tick.Goals as goal
 

@@ -1,5 +1,5 @@
 use Rattle.std.proofs.Common.{◌≡◌, map, take}
-use Rattle.cml_narrative.specs.Turns.{began_in}
+use Rattle.cml_facts.specs.Turns.{began_in}
 use Rattle.cml_stepper.specs.Offers.{offered_row}
 use Rattle.cml_stepper.proofs.offer.each_row.Given as goal
 

@@ -1,6 +1,6 @@
 use Rattle.std.proofs.Common.{◌∙◌}
-use Rattle.cml_ending.specs.Takes.{taker_in}
-use Rattle.cml_narrative.specs.Turns.{began_in}
+use Rattle.cml_facts.specs.Takes.{taker_in}
+use Rattle.cml_facts.specs.Turns.{began_in}
 use Rattle.cml_stepper.proofs.OfferLemmas.{told_of_nobody}
 use Rattle.cml_stepper.proofs.offer.event_of.Goals as goal
 

@@ -1,6 +1,6 @@
 use Rattle.std.proofs.Common.{◌<◌, ◌++◌, ◌∷◌, [], length, get_or, arith, ap, ◌∙◌}
 use Rattle.cml_schedule.specs.declared.item.Item.TheVariants.{Turn}
-use Rattle.cml_ending.proofs.ReplayLemmas.{next_allowed, item_at, taken_more}
+use Rattle.cml_facts.proofs.ReplayLemmas.{next_allowed, item_at, taken_more}
 use Rattle.cml_stepper.proofs.undo.follow_first.Goals as goal
 
 pub come-requires-clause-allowed : goal.come-requires-clause-allowed

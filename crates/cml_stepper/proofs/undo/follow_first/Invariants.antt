@@ -1,6 +1,6 @@
 use Rattle.std.proofs.Common.{◌≡◌, ◌≤◌, take}
 use Rattle.cml_hub.specs.Kept.{NoneOut}
-use Rattle.cml_narrative.specs.Narrators.{places_of, Knows}
+use Rattle.cml_facts.specs.Narrators.{places_of, Knows}
 use Rattle.cml_stepper.proofs.undo.follow_first.Given as goal
 
 -- the second hub has gone so far, and the narrator with it

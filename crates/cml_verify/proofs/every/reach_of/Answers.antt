@@ -1,7 +1,7 @@
 use Rattle.std.proofs.Common.{[], ◌∷◌, map, sym, ◌∙◌, arith, length-append, true≢false}
 use Rattle.std.proofs.lemmas.List.{length-map}
-use Rattle.cml_search.specs.Systems.{IsReached}
-use Rattle.cml_search.proofs.Places.{all_at, place_of}
+use Rattle.cml_verify.specs.Systems.{IsReached}
+use Rattle.cml_verify.specs.Places.{all_at, place_in}
 use Rattle.cml_step.specs.Calls.{text_of}
 use Rattle.cml_verify.specs.{Cores.{program_system}, Kept.{core_kept}, Faults.{turn_of}}
 use Rattle.cml_verify.proofs.every.reach_of.Goals as goal
@@ -37,7 +37,7 @@ returns-then-is_whole-clause-followed c = λ items core thread within leads.
     let keys = c.args.found.now.kept.keys in
     let states = map (core_kept c.args.system.now.program) keys in
     let has = c.requires.all whole core (items, leads) in
-    (has.0, omega (arith, has.1, c.requires.whole whole, length-map keys (core_kept c.args.system.now.program)), place_of states core has)
+    (has.0, omega (arith, has.1, c.requires.whole whole, length-map keys (core_kept c.args.system.now.program)), place_in states core has)
 
 pub returns-clause-followed : goal.returns-clause-followed
 returns-clause-followed c = λ items core thread within leads.

@@ -2,9 +2,9 @@ use Rattle.std.proofs.Common.{length, map, slice_get, ◌∙◌, arith}
 use Rattle.std.proofs.lemmas.List.{length-map}
 use Rattle.cml_step.specs.Calls.{text_of}
 use Rattle.cml_hub.specs.Runs.{terminal}
-use Rattle.cml_search.specs.Systems.{CanReach}
-use Rattle.cml_search.proofs.Runs.{at_some}
-use Rattle.cml_search.proofs.Places.{there}
+use Rattle.cml_verify.specs.Systems.{CanReach}
+use Rattle.cml_verify.proofs.Runs.{at_some}
+use Rattle.cml_verify.specs.Places.{there}
 use Rattle.cml_verify.specs.{Cores.{Core, program_system}, Kept.{core_kept}}
 use Rattle.cml_verify.proofs.Unending.{never_ends, fewest_unending, always_can}
 use Rattle.cml_verify.proofs.every.unending_of.Goals as goal

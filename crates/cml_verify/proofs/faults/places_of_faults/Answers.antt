@@ -3,8 +3,8 @@ use Rattle.std.specs.List.{All}
 use Rattle.std.proofs.lemmas.List.{take_all}
 use Rattle.std.proofs.lemmas.List.Elements.{All-nil}
 use Rattle.cml_step.specs.Calls.{text_of}
-use Rattle.cml_search.specs.Searches.{IsEdge}
-use Rattle.cml_search.proofs.Places.{all_at, read_through}
+use Rattle.cml_verify.specs.Searches.{IsEdge}
+use Rattle.cml_verify.specs.Places.{all_at, read_through}
 use Rattle.cml_verify.specs.{Cores.{program_system}, Kept.{core_kept}, Falling.{FallsFrom, EdgeIsNoted}}
 use Rattle.cml_verify.proofs.Faulting.{noted_more}
 use Rattle.cml_verify.proofs.faults.places_of_faults.Goals as goal

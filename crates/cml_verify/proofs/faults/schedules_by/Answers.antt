@@ -2,7 +2,7 @@ use Rattle.std.proofs.Common.{◌≡◌, Some, slice_get, [], ◌∷◌, length,
 use Rattle.std.proofs.lemmas.List.{map-append}
 use Rattle.std.proofs.lemmas.Option.{slice_get_read, slice_get_within}
 use Rattle.cml_step.specs.Calls.{text_of}
-use Rattle.cml_search.proofs.Places.{all_at}
+use Rattle.cml_verify.specs.Places.{all_at}
 use Rattle.cml_verify.specs.{Cores.{program_system}, Kept.{core_kept}, Falling.{FallsFrom}}
 use Rattle.cml_verify.proofs.Faulting.{by_none, by_more}
 use Rattle.cml_verify.proofs.faults.schedules_by.Goals as goal

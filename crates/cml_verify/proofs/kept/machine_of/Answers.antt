@@ -1,5 +1,5 @@
 use Rattle.std.proofs.Common.{Some, ap, sym, ◌∙◌}
-use Rattle.cml_search.proofs.Places.{there}
+use Rattle.cml_verify.specs.Places.{there}
 use Rattle.cml_verify.proofs.kept.machine_of.Goals as goal
 
 pub returns : goal.returns

@@ -1,6 +1,6 @@
 use Rattle.std.proofs.Common.{◌∙◌, ◌++◌, ◌∷◌, [], List, length, refl, ap, arith}
 use Rattle.std.proofs.lemmas.List.{length_push}
-use Rattle.cml_queues.specs.PlainMulticast.{PlainMulticast}
+use Rattle.cml_objects.specs.PlainMulticast.{PlainMulticast}
 use Rattle.cml_book.specs.contracts.state.State.{the_view}
 use Rattle.cml_book.specs.Views.{ports_of}
 use Rattle.cml_book.proofs.ObjectLemmas.{stays_kept}

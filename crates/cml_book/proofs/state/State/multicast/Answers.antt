@@ -1,7 +1,7 @@
 use Rattle.std.proofs.Common.{◌≡◌, ◌∙◌, ◌<◌, ℕ, List, true, length, refl, ap, sym, arith}
 use Rattle.cml_value.specs.Limits.{value_fits}
 use Rattle.cml_value.specs.Value.{PlainValue}
-use Rattle.cml_queues.specs.Posts.{port_numbers, any_is_full, posted}
+use Rattle.cml_objects.specs.Posts.{port_numbers, any_is_full, posted}
 use Rattle.cml_book.specs.MakePort.{has_port}
 use Rattle.cml_book.specs.Views.{queues_of, ports_of}
 use Rattle.cml_book.specs.contracts.state.State.{the_view}

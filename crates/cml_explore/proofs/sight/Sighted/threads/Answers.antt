@@ -1,5 +1,5 @@
 use Rattle.std.proofs.Common.{arith}
-use Rattle.cml_ending.proofs.ThreadLemmas.{one_thread_more, no_thread_more}
+use Rattle.cml_facts.proofs.ThreadLemmas.{one_thread_more, no_thread_more}
 use Rattle.cml_explore.specs.SightViews.{plain_sight}
 use Rattle.cml_explore.proofs.SightLemmas.{threads_made}
 use Rattle.cml_explore.proofs.sight.Sighted.threads.Goals as goal

@@ -1,7 +1,7 @@
 use Rattle.std.proofs.Common.{ap, subst, ◌∙◌}
 use Rattle.cml_explore.specs.Finishes.{is_good}
-use Rattle.cml_seed.specs.SeedRuns.{IsSeedRun}
-use Rattle.cml_seed.specs.declared.order.Order.{Order}
+use Rattle.cml_explore.specs.SeedRuns.{IsSeedRun}
+use Rattle.cml_explore.specs.declared.seed.order.Order.{Order}
 use Rattle.cml_explore.proofs.tell.Script.seed_told.Goals as goal
 
 pub returns : goal.returns

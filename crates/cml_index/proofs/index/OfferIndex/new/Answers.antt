@@ -2,7 +2,7 @@ use Rattle.std.proofs.Common.{◌≡◌, ℕ, Bool, true, false, length, refl, a
 use Rattle.std.specs.List.{filter, list_any}
 use Rattle.cml_scan.specs.Order.{IsSorted, Every}
 use Rattle.cml_scan.specs.Scan.{offers_of}
-use Rattle.cml_channel.specs.Pairings.{one_lane, same_object}
+use Rattle.cml_objects.specs.Pairings.{one_lane, same_object}
 use Rattle.cml_index.specs.declared.slot.Slot.TheVariants.{Side}
 use Rattle.cml_index.specs.Slots.{lane_at, lane_of}
 use Rattle.cml_index.specs.Stands.{places_in, late_in, going_in}

@@ -5,7 +5,7 @@ use Rattle.cml_index.specs.Stands.{stand_at}
 use Rattle.std.proofs.Common.{nat_lt}
 use Rattle.std.specs.Option.{option_copied}
 use Rattle.cml_scan.specs.Order.{Ascends}
-use Rattle.cml_channel.specs.Lanes.{with_run}
+use Rattle.cml_objects.specs.Lanes.{with_run}
 use Rattle.cml_index.proofs.Walks.{waits_more, waits_all, no_leaves, one_more, joined_run, with_none, leaves_at-ascend, decide}
 use Rattle.cml_index.proofs.Stood.{come_twice, none_comes}
 use Rattle.cml_index.proofs.lanes.Lanes.come.Goals as goal

@@ -1,7 +1,7 @@
 use Rattle.std.proofs.Common.{◌≡◌, ◌∷◌, [], Some, None, ap, sym, ◌∙◌}
 use Rattle.std.specs.Option.{option_copied}
 use Rattle.cml_index.specs.Slots.{slot_in, slot_leaves, lane_at, late_at, going_at}
-use Rattle.cml_channel.specs.Lanes.{with_run}
+use Rattle.cml_objects.specs.Lanes.{with_run}
 use Rattle.cml_index.proofs.Walks.{with_none}
 use Rattle.cml_index.proofs.Alone.{lone_came, at_slot, on_ok, on_err}
 use Rattle.cml_index.proofs.lanes.Lanes.come_lone.Goals as goal

@@ -6,7 +6,7 @@ use Rattle.std.proofs.Common.{nat_lt, zero, suc, List}
 use Rattle.std.specs.List.{filter}
 use Rattle.cml_scan.specs.declared.meet.Place.{Place}
 use Rattle.cml_value.specs.declared.number.Tid.{Tid}
-use Rattle.cml_channel.specs.Lanes.{others, is_own}
+use Rattle.cml_objects.specs.Lanes.{others, is_own}
 use Rattle.cml_index.proofs.Walks.{waits_more, waits_all, no_leaves, one_more, others_all, decide}
 use Rattle.std.proofs.lemmas.Bool.Decides.{nat_tests}
 use Rattle.std.specs.Option.{option_copied}

@@ -1,5 +1,5 @@
 use Rattle.std.proofs.Common.{◌≡◌, false, map, drop}
-use Rattle.cml_channel.specs.declared.pairing.PairedId.{PairedId}
+use Rattle.cml_objects.specs.declared.pairing.PairedId.{PairedId}
 use Rattle.cml_index.specs.Slots.{slot_in}
 use Rattle.cml_index.specs.Live as spec
 use Rattle.cml_index.proofs.live.Live.add_all.Given as goal

@@ -7,13 +7,13 @@ use Rattle.cml_scan.specs.Table.{with_entry}
 use Rattle.cml_scan.specs.Light.{lit_by}
 use Rattle.cml_scan.specs.Order.{IsSorted, Every, Ascends, before}
 use Rattle.cml_scan.proofs.Ordered.{sorted_with}
-use Rattle.cml_channel.specs.Lanes.{is_others, with_run}
+use Rattle.cml_objects.specs.Lanes.{is_others, with_run}
 use Rattle.std.specs.Prelude.{List}
 use Rattle.cml_index.specs.declared.slot.Slot.{Slot}
 use Rattle.cml_index.specs.declared.slot.Slot.TheVariants.{Side}
 use Rattle.cml_index.specs.Slots.{slot_in, lane_at, lane_of, slot_leaves, has_slot}
 use Rattle.cml_index.proofs.Walks.{no_leaves, with_none}
-use Rattle.cml_channel.specs.Pairings.{one_lane}
+use Rattle.cml_objects.specs.Pairings.{one_lane}
 use Rattle.cml_index.specs.Live.{may_meet, have_side}
 use Rattle.cml_index.proofs.Kept.{no_sides, meet_more, with_longer}
 use Rattle.cml_index.specs.Crossing.{crosses}

@@ -6,12 +6,12 @@ use Rattle.cml_scan.specs.Table.{without}
 use Rattle.cml_scan.specs.Light.{lit_by}
 use Rattle.cml_scan.specs.Order.{IsSorted, Every}
 use Rattle.cml_scan.proofs.Ordered.{sorted_without}
-use Rattle.cml_channel.specs.Lanes.{is_own, is_others, others}
+use Rattle.cml_objects.specs.Lanes.{is_own, is_others, others}
 use Rattle.cml_index.specs.declared.slot.Slot.{Slot}
 use Rattle.cml_index.specs.declared.slot.Slot.TheVariants.{Side}
 use Rattle.cml_index.specs.Slots.{slot_in, lane_at, lane_of, slot_leaves, has_slot}
 use Rattle.cml_index.proofs.Walks.{no_leaves, others_all}
-use Rattle.cml_channel.specs.Pairings.{one_lane}
+use Rattle.cml_objects.specs.Pairings.{one_lane}
 use Rattle.cml_index.specs.Live.{may_meet}
 use Rattle.cml_index.proofs.Kept.{no_sides, meet_less}
 use Rattle.cml_index.specs.Crossing.{crosses}

@@ -1,5 +1,5 @@
 use Rattle.std.proofs.Common.{◌≡◌}
-use Rattle.cml_narrative.specs.Turns.{began_in}
+use Rattle.cml_facts.specs.Turns.{began_in}
 use Rattle.cml_picture.specs.Lives.{beginnings}
 use Rattle.cml_picture.specs.Parts.{flag_at}
 use Rattle.cml_picture.proofs.sheet.left.beginnings_of.Given as goal

@@ -1,6 +1,6 @@
 use Rattle.std.proofs.Common.{◌≡◌, ◌||◌, map}
 use Rattle.std.specs.Prelude.{nat_le}
-use Rattle.cml_narrative.specs.Turns.{began_in}
+use Rattle.cml_facts.specs.Turns.{began_in}
 use Rattle.cml_picture.specs.Lives.{lefts}
 use Rattle.cml_picture.specs.Parts.{flag_at}
 use Rattle.cml_picture.specs.Views.{plain_left}

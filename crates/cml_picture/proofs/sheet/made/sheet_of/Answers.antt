@@ -1,5 +1,5 @@
 use Rattle.std.proofs.Common.{length, refl}
-use Rattle.cml_narrative.specs.Narrators.{places_of}
+use Rattle.cml_facts.specs.Narrators.{places_of}
 use Rattle.cml_phrase.specs.Spots.{all_places}
 use Rattle.cml_picture.specs.Views.{plain_sheet, plain_stack}
 use Rattle.cml_picture.proofs.Made.{sheet_made}

@@ -1,5 +1,5 @@
 use Rattle.std.proofs.Common.{◌≡◌, ◌≤◌, ◌∙◌, map, arith, refl}
-use Rattle.cml_narrative.specs.Turns.{began_in}
+use Rattle.cml_facts.specs.Turns.{began_in}
 use Rattle.cml_picture.specs.Lives.{beginnings, lefts}
 use Rattle.cml_picture.specs.Parts.{acts, takes_part}
 use Rattle.cml_picture.specs.Stacks.{thread_count}

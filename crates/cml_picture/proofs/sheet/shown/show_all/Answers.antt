@@ -1,5 +1,5 @@
 use Rattle.std.proofs.Common.{rules, ◌≡◌, ◌∙◌, IfErr, Err, subst, sym}
-use Rattle.cml_narrative.specs.Narrators.{places_of}
+use Rattle.cml_facts.specs.Narrators.{places_of}
 use Rattle.cml_picture.specs.Stops.{StopsOf}
 use Rattle.cml_picture.specs.Views.{plain_stack}
 use Rattle.cml_picture.proofs.Along.{shows_more, stops_index}

@@ -1,6 +1,6 @@
 use Rattle.std.proofs.Common.{◌≡◌, take}
 use Rattle.cml_hub.specs.Kept.{NoneOut}
-use Rattle.cml_narrative.specs.Narrators.{places_of, Knows}
+use Rattle.cml_facts.specs.Narrators.{places_of, Knows}
 use Rattle.cml_picture.specs.Draws.{Shows}
 use Rattle.cml_picture.specs.Views.{plain_stack}
 use Rattle.cml_picture.proofs.sheet.shown.show_all.Given as goal

@@ -1,4 +1,4 @@
-use Rattle.cml_narrative.specs.Narrators.{places_of}
+use Rattle.cml_facts.specs.Narrators.{places_of}
 use Rattle.cml_picture.specs.Views.{plain_stack}
 use Rattle.cml_picture.proofs.Along.{shown_by, stops_by}
 use Rattle.cml_picture.proofs.sheet.shown.show_item.Goals as goal

@@ -1,5 +1,5 @@
 use Rattle.std.proofs.Common.{rules, ◌≡◌, IfErr, Err, subst, sym}
-use Rattle.cml_narrative.specs.Narrators.{places_of}
+use Rattle.cml_facts.specs.Narrators.{places_of}
 use Rattle.cml_picture.specs.Draws.{IsNotDrawn}
 use Rattle.cml_picture.proofs.Along.{range_halts, range_stops}
 use Rattle.cml_picture.proofs.sheet.shown.show_range.Goals as goal

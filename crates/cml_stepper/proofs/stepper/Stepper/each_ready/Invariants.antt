@@ -1,5 +1,5 @@
 use Rattle.std.proofs.Common.{◌≡◌, map, take}
-use Rattle.cml_narrative.specs.Turns.{began_in}
+use Rattle.cml_facts.specs.Turns.{began_in}
 use Rattle.cml_stepper.specs.Questions.{ready_thread}
 use Rattle.cml_stepper.specs.Steppers.{places_known}
 use Rattle.cml_stepper.proofs.stepper.Stepper.each_ready.Given as goal

@@ -1,7 +1,7 @@
 use Rattle.std.proofs.Common.{ap, arith, length, subst, ◌∙◌}
 use Rattle.cml_scan.specs.World.{PlainWorld}
 use Rattle.cml_scan.specs.Scan.{scan}
-use Rattle.cml_narrative.specs.Turns.{began_in}
+use Rattle.cml_facts.specs.Turns.{began_in}
 use Rattle.cml_stepper.specs.Offers.{AreRows}
 use Rattle.cml_stepper.specs.Questions.{is_still, running_from, tick_next}
 use Rattle.cml_stepper.proofs.OfferLemmas.{first_rows}

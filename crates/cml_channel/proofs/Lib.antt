@@ -1,3 +1,0 @@
-pub mod Counts
-pub mod Free
-pub mod Pairs

@@ -1,5 +1,0 @@
-use Rattle.cml_ending.proofs.RingLaws.{is_ring}
-use Rattle.cml_ending.proofs.law.what_is_told_as_a_ring_is_one.Goals as goal
-
-pub returns : goal.returns
-returns c = is_ring

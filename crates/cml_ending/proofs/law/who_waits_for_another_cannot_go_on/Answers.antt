@@ -1,5 +1,0 @@
-use Rattle.cml_ending.proofs.BlockedLaws.{cant_go_on}
-use Rattle.cml_ending.proofs.law.who_waits_for_another_cannot_go_on.Goals as goal
-
-pub returns : goal.returns
-returns c = cant_go_on

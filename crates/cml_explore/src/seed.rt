@@ -1,0 +1,9 @@
+//! The run of a program that a seed makes.
+
+mod lot;
+mod order;
+mod priority;
+mod run;
+
+pub use order::Order;
+pub use run::seed_run;

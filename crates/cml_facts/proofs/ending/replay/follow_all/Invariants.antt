@@ -1,0 +1,12 @@
+use Rattle.std.proofs.Common.{take}
+use Rattle.cml_step.specs.Calls.{text_of}
+use Rattle.cml_facts.specs.Again.{RunsAgain}
+use Rattle.cml_facts.specs.Takes.{KnowsTakers}
+use Rattle.cml_facts.proofs.ending.replay.follow_all.Given as goal
+
+-- the second hub has gone so far, and the takers are known
+abbrev pub invariant-loop-i : goal.invariant-loop-i
+invariant-loop-i l = record {
+  gone : RunsAgain l.hub l.second l.i;
+  knows : KnowsTakers (text_of l.hub.course.program) (take l.i l.hub.course.items) l.takers;
+}

@@ -1,0 +1,11 @@
+use Rattle.cml_step.specs.Shared.{plain_seen, left_of}
+use Rattle.cml_facts.proofs.StandingLemmas.{is_top, is_no_call}
+use Rattle.cml_facts.proofs.ending.standing.top_call.Goals as goal
+
+pub returns-in-Some-as_call : goal.returns-in-Some-as_call
+returns-in-Some-as_call c =
+    is_top (left_of c.entries.walk) (left_of c.step.new.self) (plain_seen c.in-Some.seen) _ _ c.in-Some.ensures c.entries.invariant c.in-Some-as_call.ensures
+
+pub entries-preserved : goal.entries-preserved
+entries-preserved c =
+    is_no_call (left_of c.entries.walk) (left_of c.step.new.self) (plain_seen c.in-Some.seen) _ c.in-Some.ensures c.entries.invariant c.in-None.ensures

@@ -1,9 +1,0 @@
--- The details of threads.
-use Rattle.std.proofs.Common.{ℕ, Option, refl}
-use Rattle.cml_hub.specs.Courses.{PlainCourse}
-use Rattle.cml_ending.proofs.ThreadLemmas.{IsMade}
-use Rattle.cml_fault.specs.Falls.{PlainFall}
-use Rattle.cml_fault.specs.Details.{thread_details, threads_details}
-
-pub details_made : (c : PlainCourse) (falls : ℕ → Option PlainFall) → IsMade (thread_details c falls) (threads_details c falls)
-details_made c falls = record { none = λ i. refl; more = λ i t threads. refl }

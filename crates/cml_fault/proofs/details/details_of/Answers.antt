@@ -1,6 +1,0 @@
-use Rattle.cml_fault.specs.FallViews.{fall_in}
-use Rattle.cml_fault.proofs.FallLemmas.{details_so}
-use Rattle.cml_fault.proofs.details.details_of.Goals as goal
-
-pub returns : goal.returns
-returns c = details_so c.details.result c.args.hub.now (fall_in c.in_ok-falls.falls) c.in_ok-falls.ensures c.details.ensures

@@ -1,7 +1,0 @@
-use Rattle.std.proofs.Common.{◌≡◌, ◌++◌, map, take}
-use Rattle.cml_fault.specs.Details.{kind_detail}
-use Rattle.cml_fault.proofs.details.push_kinds.Given as goal
-
--- those of the base events so far
-abbrev pub invariant-loop-base : goal.invariant-loop-base
-invariant-loop-base l = l.details.items ≡ l.fn.details.items ++ map kind_detail (take l.base-index l.bases)

@@ -1,7 +1,0 @@
-use Rattle.std.proofs.Common.{◌≡◌, drop}
-use Rattle.cml_memory.specs.Files.{content_under}
-use Rattle.cml_memory.proofs.find.Given as goal
-
--- the name is not that of a file before
-abbrev pub invariant-loop-file : goal.invariant-loop-file
-invariant-loop-file l = content_under (drop l.file-index l.files) l.name ≡ content_under l.files l.name

@@ -1,0 +1,9 @@
+pub mod Objects
+pub mod LitLeaves
+pub mod Waits
+pub mod PostLemmas
+pub mod ClockLemmas
+pub mod Ticks
+pub mod Counts
+pub mod Free
+pub mod Pairs

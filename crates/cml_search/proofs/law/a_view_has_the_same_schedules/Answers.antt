@@ -1,5 +1,0 @@
-use Rattle.cml_search.proofs.Views.{sees_schedules}
-use Rattle.cml_search.proofs.law.a_view_has_the_same_schedules.Goals as goal
-
-pub returns : goal.returns
-returns g c = sees_schedules

@@ -1,5 +1,0 @@
-use Rattle.cml_search.proofs.Local.{keeps_quiet}
-use Rattle.cml_search.proofs.law.local_turns_are_quiet.Goals as goal
-
-pub returns : goal.returns
-returns g c m listed local = keeps_quiet m listed local

@@ -1,4 +1,0 @@
-pub mod DrawLemmas
-pub mod LotLemmas
-pub mod PriorityLemmas
-pub mod RunLemmas

@@ -1,3 +1,0 @@
-pub mod CutLemmas
-pub mod SearchLemmas
-pub mod AlikeLemmas

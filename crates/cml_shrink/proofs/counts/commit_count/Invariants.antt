@@ -1,8 +1,0 @@
-use Rattle.std.proofs.Common.{◌≡◌, ◌≤◌, take}
-use Rattle.std.specs.Prelude.{count_by}
-use Rattle.cml_shrink.specs.Counts.{is_commit}
-use Rattle.cml_shrink.proofs.counts.commit_count.Given as goal
-
--- those so far
-abbrev pub invariant-loop-item : goal.invariant-loop-item
-invariant-loop-item l = (l.count ≡ count_by is_commit (take l.item-index l.items)) × (l.count ≤ l.item-index)
