@@ -29,7 +29,7 @@ pub record PlainAsked : Type 0 where
 -- something is asked for
 abbrev pub is_asked : {A : Type 0} → List A → Bool
 is_asked [] = false
-is_asked (a ∷ as) = true
+is_asked (a ∷ rest) = true
 
 -- the run is to stop where a thread ends at a fault, and one has
 abbrev pub has_fallen : PlainAsked → Kept → Bool
