@@ -22,19 +22,19 @@ BreaksOne properties output =
     (property : Property) × Contains properties property × ((printed : List PlainLine) × AreLinesOf (lines output) printed × IsFalse (keeps property printed GoesOn))
 
 -- Behind these items what was printed breaks one of the properties, or a thread has ended at a fault.
-abbrev pub IsBroken : List Property → Program → List Item → Type 0
-IsBroken properties p items = IsSomeAnd (stands p items) (λ r. BreaksOne properties r.output ⊎ (0 < fault_count p items))
+abbrev pub IsBrokenAfter : List Property → Program → List Item → Type 0
+IsBrokenAfter properties p items = IsSomeAnd (stands p items) (λ r. BreaksOne properties r.output ⊎ (0 < fault_count p items))
 
 -- The run is stopped behind so many items: it is broken there, and behind no fewer.
 pub record StopsBehind (properties : List Property) (p : Program) (items : List Item) (n : ℕ) : Type 0 where
   pub within : n ≤ length items
-  pub broken : IsBroken properties p (take n items)
-  pub first : (k : ℕ) → k < n → IsBroken properties p (take k items) → ⊥
+  pub broken : IsBrokenAfter properties p (take n items)
+  pub first : (k : ℕ) → k < n → IsBrokenAfter properties p (take k items) → ⊥
 
 -- where it is stopped, if it is
-abbrev pub StopsAt : List Property → Program → List Item → Option ℕ → Type 0
-StopsAt properties p items (Some n) = StopsBehind properties p items n
-StopsAt properties p items None = (k : ℕ) → IsBroken properties p (take k items) → ⊥
+abbrev pub StopsAfter : List Property → Program → List Item → Option ℕ → Type 0
+StopsAfter properties p items (Some n) = StopsBehind properties p items n
+StopsAfter properties p items None = (k : ℕ) → IsBrokenAfter properties p (take k items) → ⊥
 
 -- the items up to there, or all
 abbrev pub items_until : Option ℕ → List Item → List Item
@@ -44,7 +44,7 @@ items_until None items = items
 -- What is told of a run: all of it; or, where it is to stop, as far as it goes until it is stopped.
 abbrev pub IsToldUpTo : Bool → List Property → Program → List Item → List Item → Type 0
 IsToldUpTo false properties p items told = told ≡ items
-IsToldUpTo true properties p items told = (count : Option ℕ) × StopsAt properties p items count × (told ≡ items_until count items)
+IsToldUpTo true properties p items told = (count : Option ℕ) × StopsAfter properties p items count × (told ≡ items_until count items)
 
 -- the run of the same program under the same budget by the items up to where it is stopped
 pub record IsStoppedHub (properties : List Property) (h other : Kept) (n : ℕ) : Type 0 where
@@ -54,9 +54,9 @@ pub record IsStoppedHub (properties : List Property) (h other : Kept) (n : ℕ) 
   pub items : other.course.items ≡ take n h.course.items
 
 -- that, or that the run is not stopped
-abbrev pub IsStopped : List Property → Kept → Option Kept → Type 0
-IsStopped properties h (Some other) = (n : ℕ) × IsStoppedHub properties h other n
-IsStopped properties h None = StopsAt properties (text_of h.course.program) h.course.items None
+abbrev pub IsStoppedThere : List Property → Kept → Option Kept → Type 0
+IsStoppedThere properties h (Some other) = (n : ℕ) × IsStoppedHub properties h other n
+IsStoppedThere properties h None = StopsAfter properties (text_of h.course.program) h.course.items None
 
 -- ---- what private functions say
 

@@ -19,7 +19,7 @@ fn are_some(count: Option<usize>) -> bool
 
 // Whether some mailbox holds an item.
 fn some_mailbox(hub: &Hub) -> bool
-    ensures { result ≡ list_any spec.is_filled hub.now.course.world.mailboxes }
+    ensures { result ≡ list_any spec.has_an_item hub.now.course.world.mailboxes }
 {
     for mailbox in 0..hub.book().next_objects().mailbox.0 {
         if are_some(hub.book().mailbox_len(MboxId(mailbox))) {
@@ -31,7 +31,7 @@ fn some_mailbox(hub: &Hub) -> bool
 
 // Whether some port does.
 fn some_port(hub: &Hub) -> bool
-    ensures { result ≡ list_any spec.is_filled hub.now.course.world.ports }
+    ensures { result ≡ list_any spec.has_an_item hub.now.course.world.ports }
 {
     for port in 0..hub.book().next_objects().port.0 {
         if are_some(hub.book().port_len(PortId(port))) {

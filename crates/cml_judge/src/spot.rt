@@ -2,7 +2,7 @@
 
 ghost use Rattle.std.specs.Prelude.{◌≡◌, ◌<◌, ◌≤◌, ◌+◌, suc, ℕ, IfOk, MatchOption, length, take};
 ghost use Rattle.cml_facts.specs.Again.{RunsAgain};
-ghost use Rattle.cml_judge.specs.Spots.{IsPrintedBy, IsSpotOf, IsTurnOf};
+ghost use Rattle.cml_judge.specs.Spots.{IsPrintedBy, IsSpotOfLine, IsTurnOf};
 ghost use Rattle.cml_judge.specs.Spots as spec;
 ghost use Rattle.cml_step.specs.Calls.{text_of};
 ghost use Rattle.cml_text.specs.Lines as text;
@@ -93,7 +93,7 @@ fn thread_of(items: &[Item], number: usize) -> Option<Tid>
 /// # Errors
 /// Out of memory.
 pub(crate) fn spot_of(alloc: Global, hub: &Hub, number: usize) -> Result<Option<Spot>, AllocError>
-    ensures { IfOk result (IsSpotOf hub.now number) }
+    ensures { IfOk result (IsSpotOfLine hub.now number) }
 {
     let Some(at) = start_of(hub.out().as_bytes(), number) else {
         return Ok(None);

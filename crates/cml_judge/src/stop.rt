@@ -2,7 +2,7 @@
 
 ghost use Rattle.std.specs.Prelude.{◌≡◌, ◌≤◌, IfOk, length};
 ghost use Rattle.cml_facts.specs.Again.{RunsAgain};
-ghost use Rattle.cml_judge.specs.Stops.{IsStopped, StopsAt};
+ghost use Rattle.cml_judge.specs.Stops.{IsStoppedThere, StopsAfter};
 ghost use Rattle.cml_step.specs.Calls.{text_of};
 
 use crate::watched::Watched;
@@ -43,7 +43,7 @@ pub fn stop_of(
     properties: &[Property],
     hub: &Hub,
 ) -> Result<Option<usize>, AllocError>
-    ensures { IfOk result (StopsAt properties.now (text_of hub.now.course.program) hub.now.course.items) }
+    ensures { IfOk result (StopsAfter properties.now (text_of hub.now.course.program) hub.now.course.items) }
 {
     let mut watched = Watched::new(alloc, properties)?;
     let mut second = begin_again(alloc, hub)?;
@@ -91,7 +91,7 @@ pub fn stopped_hub(
     properties: &[Property],
     hub: &Hub,
 ) -> Result<Option<Hub>, AllocError>
-    ensures { IfOk result (IsStopped properties.now hub.now) }
+    ensures { IfOk result (IsStoppedThere properties.now hub.now) }
 {
     match stop_of(alloc, properties, hub)? {
         Some(count) => Ok(Some(first_part(alloc, hub, count)?)),
