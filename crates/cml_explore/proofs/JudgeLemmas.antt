@@ -26,7 +26,7 @@ use Rattle.cml_facts.specs.declared.fault.detail.Detail.TheVariants as detail
 use Rattle.cml_facts.specs.contracts.fault.detail.DetailEq.TheImpl.Laws.{laws-law}
 use Rattle.cml_facts.specs.Details.{AreDetails, alike, ask_detail, began_details, call_details, details_with, end_detail, fall_details, kind_detail, same_detail, standing_details}
 use Rattle.cml_facts.specs.Details.{thread_details, threads_details}
-use Rattle.cml_judge.specs.Judgements.{break_details, is_kept}
+use Rattle.cml_judge.specs.Judgements.{break_details, are_all_kept}
 use Rattle.cml_explore.specs.Classes.{Finish}
 use Rattle.cml_explore.specs.Finishes.{fate_of, is_good}
 use Rattle.cml_explore.specs.Laws.{JudgedAlike}
@@ -280,7 +280,7 @@ bare_same [] (e ∷ es) same = cc
 bare_same (d ∷ ds) [] same = cc
 bare_same (d ∷ ds) (e ∷ es) same = refl
 
-kept_bare : (k : ℕ) (judged : List (Option ℕ)) → is_kept judged ≡ is_bare (break_details k judged)
+kept_bare : (k : ℕ) (judged : List (Option ℕ)) → are_all_kept judged ≡ is_bare (break_details k judged)
 kept_bare k [] = refl
 kept_bare k (None ∷ judged) = kept_bare (suc k) judged
 kept_bare k (Some line ∷ judged) = refl
@@ -352,7 +352,7 @@ module _ (servers : List ℕ) (one other : Kept) (f g : ℕ → Option PlainFall
   second_end = ending other.budget (run_of other.course)
 
   fates_alike : alike (end_detail first_end ∷ (left ++ detail.Faults (faults_of one) ∷ break_details 0 j)) (end_detail second_end ∷ (right ++ detail.Faults (faults_of other) ∷ break_details 0 k)) ≡ true
-      → is_good (fate_of servers one (is_kept j)) ≡ is_good (fate_of servers other (is_kept k))
+      → is_good (fate_of servers one (are_all_kept j)) ≡ is_good (fate_of servers other (are_all_kept k))
   fates_alike whole =
       let parts =
       both_true (same_detail (end_detail first_end) (end_detail second_end))

@@ -10,7 +10,7 @@ use Rattle.cml_hub.specs.Deeds.{origins}
 use Rattle.cml_hub.specs.Kept.{Kept}
 use Rattle.cml_facts.specs.Waits.{who_is}
 use Rattle.cml_facts.specs.declared.ending.awaited.Named.{Named}
-use Rattle.cml_judge.specs.Judgements.{IsJudgedAt, is_kept}
+use Rattle.cml_judge.specs.Judgements.{IsJudgedAt, are_all_kept}
 use Rattle.cml_judge.specs.Spots.{AreBreaksFrom}
 use Rattle.cml_judge.specs.declared.breaks.Break.{Break}
 use Rattle.cml_judge.specs.declared.spot.Spot.{Spot}
@@ -88,12 +88,12 @@ breaks_next h ones k one old new told within is more same who was =
 
 -- what is told of how the run of a hub was judged
 pub judgement_so : (asked : Asked) (h : Kept) (judged first second : List (Option ℕ)) (fate : Fate) (well : Bool) (breaks slice : List Break) (told : List BreakTold)
-    → IsJudgedAt asked.wanted h judged → first ≡ judged → second ≡ judged → fate ≡ fate_of asked.servers.now h (is_kept first) → well ≡ is_good fate
+    → IsJudgedAt asked.wanted h judged → first ≡ judged → second ≡ judged → fate ≡ fate_of asked.servers.now h (are_all_kept first) → well ≡ is_good fate
     → AreBreaksFrom h 0 second breaks → slice ≡ breaks → AreEachBreakTold h slice told → IsJudgementTold asked h well told
 judgement_so asked h judged first second fate well breaks slice told so one two of is are same each = record {
   judged = judged;
   judged_so = so;
-  well_is = is ∙ ap is_good (of ∙ ap (λ (js : List (Option ℕ)). fate_of asked.servers.now h (is_kept js)) one);
+  well_is = is ∙ ap is_good (of ∙ ap (λ (js : List (Option ℕ)). fate_of asked.servers.now h (are_all_kept js)) one);
   breaks = breaks;
   breaks_are = subst (λ (js : List (Option ℕ)). AreBreaksFrom h 0 js breaks) two are;
   told_are = subst (λ (bs : List Break). AreEachBreakTold h bs told) same each;

@@ -2,7 +2,7 @@
 
 ghost use Rattle.std.specs.Prelude.{IfOk, MatchResult, None};
 ghost use Rattle.cml_hub.specs.Kept.{IsBudget, IsReplayed};
-ghost use Rattle.cml_explore.specs.ShrinkEnds.{EndsWith, IsGiven, IsNotGiven, IsRefused, HubEndsWith, IsWhy, IsJudged};
+ghost use Rattle.cml_explore.specs.ShrinkEnds.{EndsWith, IsGiven, IsNotGiven, IsRefused, HubEndsWith, IsWhy, IsLikeTheGiven};
 
 use crate::shrink::fault::ShrinkFault;
 use cml_check::Prog;
@@ -129,7 +129,7 @@ pub(crate) fn count_given(
 /// Out of memory.
 pub(crate) fn ends_alike(alloc: Global, goal: &Goal<'_>, items: &[Item]) -> Result<bool, AllocError>
     requires { IsBudget goal.now.asked.budget }
-    ensures { IfOk result (λ alike. IsJudged goal.now.program.now goal.now.asked goal.now.details.now items.now alike) }
+    ensures { IfOk result (λ alike. IsLikeTheGiven goal.now.program.now goal.now.asked goal.now.details.now items.now alike) }
 {
     match end_details(alloc, goal.program, &goal.asked, items) {
         Ok(details) => Ok(details.as_slice() == goal.details),

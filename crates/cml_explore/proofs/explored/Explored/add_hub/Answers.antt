@@ -1,5 +1,5 @@
 use Rattle.std.proofs.Common.{◌++◌, List, Option, ℕ, refl, ap, ◌∙◌}
-use Rattle.cml_judge.specs.Judgements.{break_details, is_kept}
+use Rattle.cml_judge.specs.Judgements.{break_details, are_all_kept}
 use Rattle.cml_explore.specs.Finishes.{PlainEnded, finish_of, fate_of, is_good, stops_by}
 use Rattle.cml_explore.proofs.ExploreLemmas.{added_hub, finish_is}
 use Rattle.cml_explore.proofs.explored.Explored.add_hub.Goals as goal
@@ -11,8 +11,8 @@ returns-clause-added c =
     let details = c.in_ok-details.details.items in
     let judged = c.in_ok-judged.judged.items in
     let own = c.in_ok-details.ensures in
-    let e : PlainEnded = record { finish = finish_of h details; fate = fate_of servers h (is_kept judged) } in
-    let fate = c.fate_of-fate.ensures ∙ ap (λ (js : List (Option ℕ)). fate_of servers h (is_kept js)) c.as_slice-2.ensures.value in (
+    let e : PlainEnded = record { finish = finish_of h details; fate = fate_of servers h (are_all_kept judged) } in
+    let fate = c.fate_of-fate.ensures ∙ ap (λ (js : List (Option ℕ)). fate_of servers h (are_all_kept js)) c.as_slice-2.ensures.value in (
       e,
       record {
         own = own.0;
