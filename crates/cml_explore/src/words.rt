@@ -467,7 +467,7 @@ fn fault_line(alloc: Global, forms: &[Sexpr], fault: &FaultTold) -> Result<Vec<u
     let mut line = Vec::new(alloc);
     for left in &fault.run.threads {
         if fault.thread == Some(left.thread.thread) {
-            push_thread(alloc, &mut line, forms, left)?;
+            push_thread(alloc, &mut line, forms, &[], left)?;
         }
     }
     Ok(line)
