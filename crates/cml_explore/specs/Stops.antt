@@ -3,6 +3,7 @@ use Rattle.std.specs.Prelude.{◌≡◌, ◌≤◌, ◌⊎◌, ℕ, ◌+◌, ◌
 use Rattle.std.specs.Option.{option_map_or}
 use Rattle.cml_check.specs.Syntax.{PlainItem}
 use Rattle.cml_hub.specs.Kept.{Kept}
+use Rattle.cml_judge.specs.Judgements.{IsJudgedAt, is_kept}
 use Rattle.cml_explore.specs.SeedRuns.{IsSeedRun}
 use Rattle.cml_explore.specs.declared.seed.order.Order.{Order}
 use Rattle.cml_explore.specs.declared.explored.Asked.{Asked}
@@ -22,11 +23,15 @@ kind_of until f = find (λ one. stops_at one f) until
 abbrev pub stopped_by : ℕ → Order → Until → Stopped
 stopped_by seed order kind = record { seed = seed; order = order; kind = kind }
 
--- The run by this seed is one at which to stop, of this kind and in this order; or it is none.
+-- The run of this hub, by this seed, is one at which to stop, of this kind and in this order; or it is none.
+abbrev pub IsStopOf : Asked → ℕ → Kept → Option Stopped → Type 0
+IsStopOf asked seed h stop =
+    (judged : List (Option ℕ)) × IsJudgedAt asked.wanted h judged
+    × (stop ≡ option_map (stopped_by seed (seed_order asked.orders seed)) (kind_of asked.until.now (fate_of asked.servers.now h (is_kept judged))))
+
+-- The same of the run by this seed.
 abbrev pub IsStopAt : List (PlainItem ℕ) → Asked → ℕ → Option Stopped → Type 0
-IsStopAt p asked seed stop =
-    (h : Kept) × IsSeedRun p asked.budget (seed_order asked.orders seed) seed h
-    × (stop ≡ option_map (stopped_by seed (seed_order asked.orders seed)) (kind_of asked.until.now (fate_of asked.servers.now h)))
+IsStopAt p asked seed stop = (h : Kept) × IsSeedRun p asked.budget (seed_order asked.orders seed) seed h × IsStopOf asked seed h stop
 
 -- Where it is said at which runs to stop, this is the last of so many, if that is one; where it is not said, or there are no runs, there is none.
 abbrev pub IsLastStop : List (PlainItem ℕ) → Asked → ℕ → Option Stopped → Type 0

@@ -6,5 +6,6 @@ pub mod Properties
 pub mod Watches
 pub mod Agreements
 pub mod Breaches
+pub mod Judged
 pub mod Reading
 pub mod Laws
