@@ -10,5 +10,5 @@ returns c =
     let asked = c.args.asked.now in (
       c.in_ok-hub.hub,
       subst (λ (o : Order). IsSeedRun c.args.program.now asked.budget o c.args.seed c.in_ok-hub.hub) c.of-order.ensures c.in_ok-hub.ensures,
-      stop_so asked c.args.seed c.in_ok-hub.hub _ _ _ _ c.of-order.ensures c.fate_of.ensures c.kind_of-kind.ensures c.stopped.ensures,
+      stop_so asked c.args.seed c.in_ok-hub.hub _ _ _ _ c.of-order.ensures c.fate_of.ensures c.stop_kind-kind.ensures c.stopped.ensures,
     )
