@@ -1,5 +1,6 @@
 -- How a schedule of a program ends.
-use Rattle.std.specs.Prelude.{ℕ, ◌≡◌, ◌⊎◌, Bool, MatchBool, true, false, List, length, Some, None}
+use Rattle.std.specs.Prelude.{ℕ, ◌≡◌, ◌⊎◌, Bool, MatchBool, true, false, List, length, Option, Some, None, Result, Ok, Err}
+use Rattle.std.specs.declared.alloc.AllocError.{AllocError}
 use Rattle.cml_check.specs.Syntax.{PlainItem}
 use Rattle.cml_step.specs.Calls.{text_of}
 use Rattle.cml_schedule.specs.declared.item.Item.{Item}
@@ -69,6 +70,12 @@ pub record HubEndsWith (asked : Asked) (h : Kept) (details : List Detail) : Type
 abbrev pub IsWhy : ReplayFault → ShrinkFault → Type 0
 IsWhy (replay_fault.BadItem number back) why = why ≡ BadItem number
 IsWhy (replay_fault.Memory back) why = why ≡ Memory
+
+-- how many items there are where a run stops so, or that it does not
+abbrev pub given_by : Result (Option ℕ) AllocError → Result ℕ ShrinkFault
+given_by (Ok (Some count)) = Ok count
+given_by (Ok None) = Err NoBreak
+given_by (Err e) = Err Memory
 
 -- whether the items can be followed from the start and end alike
 abbrev pub IsLikeTheGiven : List (PlainItem ℕ) → Asked → List Detail → List Item → Bool → Type 0
