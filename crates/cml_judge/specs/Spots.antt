@@ -52,3 +52,15 @@ AreBreaksFrom h n [] told = told ≡ []
 AreBreaksFrom h n (None ∷ judged) told = AreBreaksFrom h (suc n) judged told
 AreBreaksFrom h n (Some line ∷ judged) told =
     (b : Break) × (others : List Break) × IsBreak h n line b × AreBreaksFrom h (suc n) judged others × (told ≡ b ∷ others)
+
+-- ---- what private functions say
+
+-- The byte of this number was printed by the item that the spot tells, a turn of the thread that it tells.
+pub record IsSpotOfByte (p : Program) (items : List Item) (at : ℕ) (spot : Spot) : Type 0 where
+  pub printed : IsPrintedBy p items at spot.item
+  pub turn : IsTurnOf items spot.item spot.thread.0
+
+-- the thread whose turn the item is, which has this number
+pub record IsTurnSpot (item : Item) (number : ℕ) (spot : Spot) : Type 0 where
+  pub number_is : spot.item ≡ number
+  pub turn : item ≡ Turn spot.thread
