@@ -19,7 +19,7 @@ use Rattle.cml_explore.specs.Orders.{seed_order}
 use Rattle.cml_explore.specs.SeedRuns.{IsSeedRun}
 use Rattle.cml_facts.specs.declared.fault.detail.Detail.{Detail}
 use Rattle.cml_facts.specs.Details.{AreDetails}
-use Rattle.cml_judge.specs.Judgements.{IsJudgedAt, break_details, is_kept}
+use Rattle.cml_judge.specs.Judgements.{IsJudgedAt, break_details, are_all_kept}
 use Rattle.cml_judge.specs.declared.judged.Wanted.{Wanted}
 use Rattle.cml_explore.specs.Classes.{Finish}
 
@@ -77,7 +77,7 @@ pub record IsEndOf (servers : List ℕ) (wanted : Wanted) (h : Kept) (e : PlainE
   pub judged : List (Option ℕ)
   pub judged_so : IsJudgedAt wanted h judged
   pub finish_is : e.finish ≡ finish_of h (own ++ break_details 0 judged)
-  pub fate_is : e.fate ≡ fate_of servers h (is_kept judged)
+  pub fate_is : e.fate ≡ fate_of servers h (are_all_kept judged)
 
 -- the run of the program by this seed ended so
 abbrev pub EndsSoBy : List (PlainItem ℕ) → ℕ → Orders → List ℕ → Wanted → ℕ → PlainEnded → Type 0

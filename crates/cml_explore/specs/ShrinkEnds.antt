@@ -1,5 +1,6 @@
 -- How a schedule of a program ends.
-use Rattle.std.specs.Prelude.{ℕ, ◌≡◌, ◌⊎◌, Bool, MatchBool, true, false, List, length, Some, None}
+use Rattle.std.specs.Prelude.{ℕ, ◌≡◌, ◌⊎◌, Bool, MatchBool, true, false, List, length, Option, Some, None, Result, Ok, Err}
+use Rattle.std.specs.declared.alloc.AllocError.{AllocError}
 use Rattle.cml_check.specs.Syntax.{PlainItem}
 use Rattle.cml_step.specs.Calls.{text_of}
 use Rattle.cml_schedule.specs.declared.item.Item.{Item}
@@ -11,7 +12,7 @@ use Rattle.cml_hub.specs.Kept.{Kept, IsFirstBad}
 use Rattle.cml_facts.specs.declared.fault.detail.Detail.{Detail}
 use Rattle.cml_facts.specs.Details.{alike}
 use Rattle.cml_judge.specs.Judgements.{AreEndDetails, AreStopDetails}
-use Rattle.cml_judge.specs.Stops.{StopsAt, StopsBehind}
+use Rattle.cml_judge.specs.Stops.{StopsAfter, StopsBehind}
 use Rattle.cml_explore.specs.declared.shrink.fault.ShrinkFault.{ShrinkFault}
 use Rattle.cml_explore.specs.declared.shrink.replay.Asked.{Asked}
 use Rattle.cml_explore.specs.declared.shrink.fault.ShrinkFault.TheVariants.{BadItem, NoBreak, Memory}
@@ -55,7 +56,7 @@ IsGiven p asked items count = MatchBool asked.stops (StopsBehind asked.propertie
 
 -- why there are none: they can't be followed; or their run is to stop, and does not; or memory ran out
 abbrev pub IsNotGiven : List (PlainItem ℕ) → Asked → List Item → ShrinkFault → Type 0
-IsNotGiven p asked items NoBreak = (asked.stops ≡ true) × StopsAt asked.properties.now (text_of p) items None
+IsNotGiven p asked items NoBreak = (asked.stops ≡ true) × StopsAfter asked.properties.now (text_of p) items None
 IsNotGiven p asked items why = IsRefused p items why
 
 -- ---- what private functions say
@@ -70,7 +71,13 @@ abbrev pub IsWhy : ReplayFault → ShrinkFault → Type 0
 IsWhy (replay_fault.BadItem number back) why = why ≡ BadItem number
 IsWhy (replay_fault.Memory back) why = why ≡ Memory
 
+-- how many items there are where a run stops so, or that it does not
+abbrev pub given_by : Result (Option ℕ) AllocError → Result ℕ ShrinkFault
+given_by (Ok (Some count)) = Ok count
+given_by (Ok None) = Err NoBreak
+given_by (Err e) = Err Memory
+
 -- whether the items can be followed from the start and end alike
-abbrev pub IsJudged : List (PlainItem ℕ) → Asked → List Detail → List Item → Bool → Type 0
-IsJudged p asked details items true = EndsAlike p asked details items
-IsJudged p asked details items false = IsUnlike p asked details items
+abbrev pub IsLikeTheGiven : List (PlainItem ℕ) → Asked → List Detail → List Item → Bool → Type 0
+IsLikeTheGiven p asked details items true = EndsAlike p asked details items
+IsLikeTheGiven p asked details items false = IsUnlike p asked details items

@@ -14,7 +14,7 @@ use Rattle.cml_facts.specs.declared.ending.awaited.Named.{Named}
 use Rattle.cml_facts.specs.declared.ending.standing.Spot.{Spot}
 use Rattle.cml_facts.specs.declared.ending.left.Stands.TheVariants as standing
 use Rattle.cml_facts.specs.Falls.{PlainFall, AreFalls}
-use Rattle.cml_judge.specs.Judgements.{IsJudgedAt, is_kept}
+use Rattle.cml_judge.specs.Judgements.{IsJudgedAt, are_all_kept}
 use Rattle.cml_judge.specs.Spots.{AreBreaksFrom}
 use Rattle.cml_judge.specs.declared.breaks.Break.{Break}
 use Rattle.cml_judge.specs.declared.spot.Spot as printed
@@ -85,7 +85,7 @@ AreEachBreakTold h _ _ = ⊥
 pub record IsJudgementTold (asked : Asked) (h : Kept) (well : Bool) (told : List BreakTold) : Type 0 where
   pub judged : List (Option ℕ)
   pub judged_so : IsJudgedAt asked.wanted h judged
-  pub well_is : well ≡ is_good (fate_of asked.servers.now h (is_kept judged))
+  pub well_is : well ≡ is_good (fate_of asked.servers.now h (are_all_kept judged))
   pub breaks : List Break
   pub breaks_are : AreBreaksFrom h 0 judged breaks
   pub told_are : AreEachBreakTold h breaks told

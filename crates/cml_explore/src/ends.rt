@@ -87,6 +87,7 @@ impl Explored {
     ) -> Result<(), AllocError>
         requires few { All (λ c. c.summary.runs < u64.MAX) self.old.classes }
         requires runs { self.old.runs < u64.MAX }
+        requires none { asked.now.wanted.properties.now ≡ [] }
         ensures { IfOk result (λ _. (e : PlainEnded) × EndsSoAfter program.now asked.now.servers.now items.now e × (self.new ≡ with_ended number e self.old)) }
     {
         let hub = hub_by(alloc, program, items)?;

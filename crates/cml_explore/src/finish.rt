@@ -1,7 +1,7 @@
 //! How one run ended.
 
 ghost use Rattle.std.specs.Prelude.{◌≡◌};
-ghost use Rattle.cml_judge.specs.Judgements.{is_kept};
+ghost use Rattle.cml_judge.specs.Judgements.{are_all_kept};
 ghost use Rattle.sha2.specs.Sha256.{sha256};
 ghost use Rattle.cml_explore.specs.Finishes as spec;
 
@@ -26,7 +26,7 @@ pub(crate) struct Fate {
 /// What is to be told of the run of a hub, where the threads that began with these functions are servers, and the properties that are wanted were
 /// judged so.
 pub(crate) fn fate_of(servers: &[u32], hub: &Hub, judged: &[Option<usize>]) -> Fate
-    ensures { result ≡ spec.fate_of servers.now hub.now (is_kept judged.now) }
+    ensures { result ≡ spec.fate_of servers.now hub.now (are_all_kept judged.now) }
 {
     Fate {
         end: hub.end(),

@@ -16,8 +16,8 @@ use cml_judge::judge_hub;
 use std::alloc::{AllocError, Global};
 
 // Which of these kinds of run one of this fate is, the first of them.
-fn kind_of(until: &[Until], fate: Fate) -> Option<Until>
-    ensures { result ≡ spec.kind_of until.now fate }
+fn stop_kind(until: &[Until], fate: Fate) -> Option<Until>
+    ensures { result ≡ spec.stop_kind until.now fate }
 {
     until.iter().copied().find(|one| stops_at(*one, fate))
 }
@@ -42,7 +42,7 @@ fn stop_of_hub(
     ensures { IfOk result (IsStopOf asked.now seed hub.now) }
 {
     let judged = judge_hub(alloc, &asked.wanted, hub)?;
-    let kind = kind_of(asked.until, fate_of(asked.servers, hub, judged.as_slice()));
+    let kind = stop_kind(asked.until, fate_of(asked.servers, hub, judged.as_slice()));
     Ok(stopped(seed, asked.orders.of(seed), kind))
 }
 

@@ -7,7 +7,7 @@ use Rattle.cml_hub.specs.Courses.{run_of}
 use Rattle.cml_hub.specs.Deeds.{fault_count}
 use Rattle.cml_hub.specs.Kept.{Kept}
 use Rattle.cml_hub.specs.Runs.{Run, ending}
-use Rattle.cml_judge.specs.Judgements.{IsJudgedAlone, is_kept}
+use Rattle.cml_judge.specs.Judgements.{IsJudgedAlone, are_all_kept}
 use Rattle.cml_properties.specs.declared.property.Property.{Property}
 use Rattle.cml_schedule.specs.Written.{schedule_text}
 use Rattle.cml_schedule.specs.declared.item.Item.{Item}
@@ -32,14 +32,14 @@ is_asked [] = false
 is_asked (a ∷ rest) = true
 
 -- the run is to stop where a thread ends at a fault, and one has
-abbrev pub has_fallen : PlainAsked → Kept → Bool
-has_fallen asked h = asked.stops && nat_lt 0 (fault_count (text_of h.course.program) h.course.items)
+abbrev pub has_a_fault : PlainAsked → Kept → Bool
+has_a_fault asked h = asked.stops && nat_lt 0 (fault_count (text_of h.course.program) h.course.items)
 
 -- The status: 6 where a property is broken, where the run stops at a fault, or where it is judged strictly and is stuck, which is where nothing is
 -- left to do and a thread waits that is no server, or a thread ended at a fault; else that of its end.
 abbrev pub closing_status : PlainAsked → Kept → Bool → ℕ
 closing_status asked h kept =
-    if not kept || (has_fallen asked h || (asked.strict && is_stuck asked.servers h)) then 6 else end_status (ending h.budget (run_of h.course))
+    if not kept || (has_a_fault asked h || (asked.strict && is_stuck asked.servers h)) then 6 else end_status (ending h.budget (run_of h.course))
 
 -- a hub of this program, under this budget, that these items have led to where this run stands
 pub record IsHubAt (p : List (PlainItem ℕ)) (budget : ℕ) (items : List Item) (r : Run) (h : Kept) : Type 0 where
@@ -57,7 +57,7 @@ MaySay false words = words ≡ []
 abbrev pub ClosesSo : PlainAsked → Kept → List ℕ → ℕ → Type 0
 ClosesSo asked h words status =
     (judged : List (Option ℕ)) × IsJudgedAlone asked.properties h judged × MaySay (asked.explains || is_asked asked.properties) words
-    × (status ≡ closing_status asked h (is_kept judged))
+    × (status ≡ closing_status asked h (are_all_kept judged))
 
 -- the schedule as a file of this name, where one is given
 abbrev pub schedule_file : Bool → Option (List ℕ) → List ℕ → List File

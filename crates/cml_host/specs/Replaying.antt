@@ -17,7 +17,7 @@ use Rattle.cml_host.specs.Scripts.{PlainScript, IsOpened, IsNoScript}
 use Rattle.cml_host.specs.Servers.{IsNoFunction, first_unknown, server_numbers, server_names}
 use Rattle.cml_host.specs.Told.{IsRunOf, AllReported, AreTold, AreCut}
 use Rattle.cml_host.specs.Closed.{PlainAsked}
-use Rattle.cml_host.specs.Running.{EndsTold, PlainSaving, RunsOut}
+use Rattle.cml_host.specs.Running.{EndsTold, PlainSaving, MemoryRanOut}
 use Rattle.cml_host.specs.Wanted.{AreWanted, IsUnwanted, alone}
 use Rattle.cml_properties.specs.declared.property.Property.{Property}
 
@@ -38,7 +38,7 @@ saves_nothing = record { schedule = None; picture = None }
 -- and that memory ran out; or that a write of them failed.
 abbrev pub IsReplayReply : PlainAsked → List (PlainItem ℕ) → ℕ → List Item → List PlainReport → Run → Passage → PlainReply → Type 0
 IsReplayReply asked p budget items reports r errors reply =
-    (AreTold reports errors × (EndsTold asked saves_nothing p items budget reply ⊎ RunsOut asked p items r reply)) ⊎ (AreCut reports errors × (reply ≡ broken))
+    (AreTold reports errors × (EndsTold asked saves_nothing p items budget reply ⊎ MemoryRanOut asked p items r reply)) ⊎ (AreCut reports errors × (reply ≡ broken))
 
 -- The program followed the schedule, and where it led was told.
 abbrev pub PlanOutcome : PlainAsked → List (PlainItem ℕ) → Option ℕ → PlainPlan → Passage → Passage → Shelf → ℕ → Type 0

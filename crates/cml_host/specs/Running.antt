@@ -7,7 +7,7 @@ use Rattle.cml_hub.specs.Courses.{run_of}
 use Rattle.cml_hub.specs.Kept.{Kept, SwapsAreExchanges}
 use Rattle.cml_hub.specs.Playing.{Rules, run_by, PlaysOut}
 use Rattle.cml_hub.specs.Runs.{Run, over, stands}
-use Rattle.cml_judge.specs.Stops.{IsStopped, IsToldUpTo}
+use Rattle.cml_judge.specs.Stops.{IsStoppedThere, IsToldUpTo}
 use Rattle.cml_properties.specs.declared.property.Property.{Property}
 use Rattle.cml_hub.specs.declared.choose.First.{First}
 use Rattle.cml_schedule.specs.Reports.{PlainReport}
@@ -78,8 +78,8 @@ EndsTold asked saving p items budget reply =
     × IsEndReply asked saving p told budget r reply
 
 -- memory ran out while it was told
-abbrev pub RunsOut : PlainAsked → List (PlainItem ℕ) → List Item → Run → PlainReply → Type 0
-RunsOut asked p items r reply =
+abbrev pub MemoryRanOut : PlainAsked → List (PlainItem ℕ) → List Item → Run → PlainReply → Type 0
+MemoryRanOut asked p items r reply =
     (reply ≡ runs_out r.output)
     ⊎ ((told : List Item) × (so_far : Run) × IsToldUpTo asked.stops asked.properties (text_of p) items told × (stands (text_of p) told ≡ Some so_far)
     × (reply ≡ runs_out so_far.output))
@@ -91,7 +91,7 @@ IsEnded asked saving h reply = IsEndReply asked saving h.course.program h.course
 -- the same of a run that stops where it is to stop, or that memory ran out meanwhile
 abbrev pub IsTold : PlainAsked → PlainSaving → Kept → PlainReply → Type 0
 IsTold asked saving h reply =
-    EndsTold asked saving h.course.program h.course.items h.budget reply ⊎ RunsOut asked h.course.program h.course.items (run_of h.course) reply
+    EndsTold asked saving h.course.program h.course.items h.budget reply ⊎ MemoryRanOut asked h.course.program h.course.items (run_of h.course) reply
 
 -- the reports are written while the program runs: where they are asked for, and more workers than one
 abbrev pub ReportsAreLive : RunOptions → Type 0
@@ -113,7 +113,7 @@ abbrev pub IsRunReply : PlainAsked → PlainSaving → List (PlainItem ℕ) → 
 IsRunReply asked saving p options items reports r errors reply =
     (AreTold reports errors × HasEnded options.steps options.watch items reports r × EndsTold asked saving p items options.steps reply
     × (options.workers ≡ 1 → IsChosen p options.steps options.seed items r))
-    ⊎ (AreTold reports errors × RunsOut asked p items r reply)
+    ⊎ (AreTold reports errors × MemoryRanOut asked p items r reply)
     ⊎ (AreCut reports errors × (reply ≡ broken))
     ⊎ (ReportsAreLive options × AreForeign reports errors × (reply ≡ refusal (line (codes "foreign hub")) 1))
 
@@ -186,7 +186,7 @@ EndTold asked saving h output errors store status = Replies (IsTold asked saving
 
 -- a hub where its run stops, where it is to stop and does
 abbrev pub IsStoppedIf : PlainAsked → Kept → Option Kept → Type 0
-IsStoppedIf asked h other = MatchBool asked.stops (IsStopped asked.properties h other) (other ≡ None)
+IsStoppedIf asked h other = MatchBool asked.stops (IsStoppedThere asked.properties h other) (other ≡ None)
 
 -- The hub has run to its end, and its reports were written to the errors.
 abbrev pub HasRun : Kept → Kept → Counted → Type 0

@@ -4,7 +4,7 @@ use Rattle.cml_check.specs.Sizes.{size_of}
 use Rattle.cml_check.specs.Syntax.{PlainItem}
 use Rattle.cml_schedule.specs.Plans.{PlainPlan}
 use Rattle.cml_schedule.specs.Written.{schedule_text}
-use Rattle.cml_judge.specs.Stops.{StopsAt}
+use Rattle.cml_judge.specs.Stops.{StopsAfter}
 use Rattle.cml_properties.specs.declared.property.Property.{Property}
 use Rattle.cml_explore.specs.Shrinking.{PlainShrunk, IsShrunk}
 use Rattle.cml_explore.specs.declared.shrink.replay.Asked.{Asked}
@@ -31,7 +31,7 @@ GivesShorter p asked plan reply = IsShorter p asked plan reply.output × (reply.
 -- the run by the schedule is to stop where it breaks something, and breaks nothing
 abbrev pub BreaksNothing : List (PlainItem ℕ) → Asked → PlainPlan → Fault
 BreaksNothing p asked plan told status =
-    (asked.stops ≡ true) × StopsAt asked.properties.now (text_of p) plan.items None × (told ≡ line (codes "schedule breaks nothing")) × (status ≡ 3)
+    (asked.stops ≡ true) × StopsAfter asked.properties.now (text_of p) plan.items None × (told ≡ line (codes "schedule breaks nothing")) × (status ≡ 3)
 
 abbrev pub IsNotShorter : List (PlainItem ℕ) → Asked → PlainPlan → Fault
 IsNotShorter p asked plan told status = HasBadItem true p plan told status ⊎ BreaksNothing p asked plan told status

@@ -1,19 +1,16 @@
 -- What must hold of runs, as the arguments give it: the properties of their texts and of a file, or what is wrong with one of these.
 use Rattle.std.specs.Prelude.{◌≡◌, ◌⊎◌, ℕ, Bool, true, false, List, [], ◌∷◌, ◌++◌, codes, map, Option, Some, None, option_map, Ok, Err}
-use Rattle.std.specs.Fmt.{decimal}
 use Rattle.cml_arguments.specs.declared.PropertyOptions.{PropertyOptions}
 use Rattle.cml_check.specs.Syntax.{Name}
+use Rattle.cml_properties.specs.Faults.{property_fault_line}
 use Rattle.cml_properties.specs.Kinds.{kind_word}
 use Rattle.cml_properties.specs.Reading.{PatternsGive, TextSays}
 use Rattle.cml_properties.specs.declared.fault.PropertyFault.TheVariants.{At}
 use Rattle.cml_properties.specs.declared.fault.PropertyFaultKind.{PropertyFaultKind}
-use Rattle.cml_properties.specs.declared.fault.PropertyFaultKind.TheVariants.{Text, Word, Count}
 use Rattle.cml_properties.specs.declared.kind.PropertyKind.{PropertyKind}
 use Rattle.cml_properties.specs.declared.kind.PropertyKind.TheVariants.{Never, Always, Once, Before}
 use Rattle.cml_properties.specs.declared.property.Property.{Property}
 use Rattle.cml_properties.specs.declared.property.Property.TheVariants as property
-use Rattle.cml_text.specs.Faults as text
-use Rattle.cml_text.specs.declared.fault.TextFault.TheVariants as text_fault
 use Rattle.cml_text.specs.Lines.{line}
 use Rattle.cml_host.specs.Refused.{Fault, IsExplained, IsUnread}
 use Rattle.cml_host.specs.Scripts.{IsWholeText}
@@ -57,27 +54,36 @@ pub record AreWanted (options : PropertyOptions) (alike : Alike) (held : List �
 
 -- ---- what is wrong with them
 
--- the words of a fault
-abbrev pub property_words : PropertyFaultKind → ℕ → List ℕ
-property_words (Text kind) at = text.fault_line (text_fault.At kind at)
-property_words Word at = codes "property 1 word at " ++ decimal at
-property_words Count at = codes "property 2 count at " ++ decimal at
+-- the line that says what is wrong with the text of an option
+abbrev pub option_line : PropertyKind → PropertyFaultKind → ℕ → List ℕ
+option_line kind why at = line (codes "--" ++ (kind_word kind ++ (codes ": " ++ property_fault_line (At why at))))
 
--- one of these texts gives no property of this kind, and this tells the first such
+-- this text gives no property of this kind, and this tells why
+abbrev pub IsBadPattern : Bool → PropertyKind → Name → Fault
+IsBadPattern explains kind given told status =
+    (why : PropertyFaultKind) × (at : ℕ) × PatternsGive kind 0 0 given (Err (At why at)) × IsExplained explains (option_line kind why at) told × (status ≡ 1)
+
+-- one of these texts gives none, and this tells the first such
 abbrev pub IsNoPattern : Bool → PropertyKind → List Name → Fault
 IsNoPattern explains kind [] told status = ⊥
 IsNoPattern explains kind (given ∷ others) told status =
-    ((why : PropertyFaultKind) × (at : ℕ) × PatternsGive kind 0 0 given (Err (At why at))
-    × IsExplained explains (line (codes "--" ++ (kind_word kind ++ (codes ": " ++ property_words why at)))) told × (status ≡ 1))
+    IsBadPattern explains kind given told status
     ⊎ (((found : Property) × PatternsGive kind 0 0 given (Ok found)) × IsNoPattern explains kind others told status)
+
+-- the line that says what is wrong with a file of properties
+abbrev pub file_line : PropertyFaultKind → ℕ → List ℕ
+file_line why at = line (property_fault_line (At why at))
+
+-- this text says no properties, and this tells its first fault
+abbrev pub SaysNone : Bool → List ℕ → Fault
+SaysNone explains text told status =
+    (why : PropertyFaultKind) × (at : ℕ) × TextSays text (Err (At why at)) × IsExplained explains (file_line why at) told × (status ≡ 2)
 
 -- the file says no properties, and this tells its first fault
 abbrev pub FileSaysNone : Bool → Option Name → (List ℕ → Content) → Fault
 FileSaysNone explains None held told status = ⊥
 FileSaysNone explains (Some name) held told status =
-    ((text : List ℕ) × IsWholeText (held name) text × ((why : PropertyFaultKind) × (at : ℕ) × TextSays text (Err (At why at))
-    × IsExplained explains (line (property_words why at)) told × (status ≡ 2)))
-    ⊎ IsUnread explains name (held name) told status
+    ((text : List ℕ) × IsWholeText (held name) text × SaysNone explains text told status) ⊎ IsUnread explains name (held name) told status
 
 -- what is wrong: with the texts of an option, of which the first kind is told; or with the file
 abbrev pub IsUnwanted : Bool → PropertyOptions → (List ℕ → Content) → Fault

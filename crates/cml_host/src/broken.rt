@@ -1,10 +1,14 @@
 //! What is said of the properties that a run breaks, and of those that it keeps.
 
+ghost use Rattle.std.specs.Prelude.{◌≡◌, OnOk, [], false};
+ghost use Rattle.cml_hub.specs.Kept.{NoneOut};
+ghost use Rattle.cml_host.specs.Closed.{is_asked};
+
 use crate::close::Subject;
 use crate::tell::let_go;
 use cml_facts::ending::{begin_again, push_many, push_named, push_number, who_is};
 use cml_facts::narrative::{Narrator, push_happened};
-use cml_hub::{End, Hub};
+use cml_hub::{End, Hub, Item};
 use cml_judge::{Break, Spot, breaks_of};
 use cml_properties::Property;
 use cml_text::Sexpr;
@@ -90,19 +94,52 @@ fn push_item(
     hub: &Hub,
     second: &mut Hub,
     number: usize,
-) -> Result<(), AllocError> {
+) -> Result<(), AllocError>
+    requires { NoneOut second.old }
+{
     let forms = subject.forms.as_slice();
     let mut narrator = Narrator::new(alloc, subject.text.as_slice(), forms)?;
     let items = hub.schedule();
-    for item in items.iter().take(number.saturating_sub(1)) {
+    let before = number.saturating_sub(1).min(items.len());
+    follow_all(alloc, &mut narrator, second, &items[..before])?;
+    match items.get(before) {
+        Some(item) => push_told(alloc, out, forms, &mut narrator, second, *item, items.len()),
+        None => Ok(()),
+    }
+}
+
+// The items come in the hub.
+fn follow_all(
+    alloc: Global,
+    narrator: &mut Narrator,
+    second: &mut Hub,
+    items: &[Item],
+) -> Result<(), AllocError>
+    requires { NoneOut second.old }
+    ensures { NoneOut second.new }
+{
+    for item in items {
         narrator.follow(alloc, second, *item)?;
     }
-    if let Some(item) = items.get(number.saturating_sub(1)) {
-        if let Some(happened) = narrator.tell(alloc, second, *item)? {
-            push_happened(alloc, out, forms, items.len(), &happened)?;
-        }
-    }
     Ok(())
+}
+
+// The item comes in the hub, and it is told what it does, beside so many in all.
+fn push_told(
+    alloc: Global,
+    out: &mut Vec<u8>,
+    forms: &[Sexpr],
+    narrator: &mut Narrator,
+    second: &mut Hub,
+    item: Item,
+    count: usize,
+) -> Result<(), AllocError>
+    requires { NoneOut second.old }
+{
+    match narrator.tell(alloc, second, item)? {
+        Some(happened) => push_happened(alloc, out, forms, count, &happened),
+        None => Ok(()),
+    }
 }
 
 // Appends what the item does by which a property was broken, where the script is kept and it was by one.
@@ -161,10 +198,25 @@ pub fn push_judged(
     explains: bool,
     hub: &Hub,
     judged: &[Option<usize>],
-) -> Result<(), AllocError> {
+) -> Result<(), AllocError>
+    ensures { OnOk result (is_asked properties.now ≡ false → out.new.items ≡ out.old.items) }
+{
     if properties.is_empty() {
         return Ok(());
     }
+    push_all(alloc, out, properties, subject, explains, hub, judged)
+}
+
+// The same where some are wanted.
+fn push_all(
+    alloc: Global,
+    out: &mut Vec<u8>,
+    properties: &[Property],
+    subject: Option<&Subject<'_>>,
+    explains: bool,
+    hub: &Hub,
+    judged: &[Option<usize>],
+) -> Result<(), AllocError> {
     let told = breaks_of(alloc, hub, judged)?;
     let forms = match subject {
         Some(subject) => Some(subject.forms.as_slice()),

@@ -1,6 +1,7 @@
 //! How a run is closed that has come to its end: its status, and what is said of that end.
 
-ghost use Rattle.std.specs.Prelude.{◌≡◌, ◌||◌, IfOk, is_some};
+ghost use Rattle.std.specs.Prelude.{◌≡◌, ◌&&◌, ◌||◌, IfOk, is_some};
+ghost use Rattle.cml_facts.specs.Stuck.{is_stuck};
 ghost use Rattle.cml_host.specs.Closed.{IsClosing, MaySay, PlainAsked, is_asked, plain_asked};
 ghost use Rattle.cml_host.specs.Closed as closed;
 ghost use Rattle.cml_host.specs.Told as spec;
@@ -89,7 +90,7 @@ pub fn ask<'a>(
     ensures kept { is_some result.1.subject ≡ explains || (draws || is_asked properties.items) }
 {
     let (program, subject) = subject_of(name, script);
-    let subject = keep_where(subject, explains, draws || !properties.is_empty());
+    let subject = keep_where(subject, explains, keeps(draws, properties.as_slice()));
     let asked = Asked {
         subject,
         explains,
@@ -99,6 +100,13 @@ pub fn ask<'a>(
         stops,
     };
     (program, asked)
+}
+
+// Whether the script is kept for what is asked for besides.
+fn keeps(draws: bool, properties: &[Property]) -> bool
+    ensures { result ≡ draws || is_asked properties.now }
+{
+    draws || !properties.is_empty()
 }
 
 // The script, where the end is explained or it is asked for.
@@ -200,12 +208,25 @@ fn push_faults(
 fn closing_status(hub: &Hub, asked: &Asked<'_>, kept: bool) -> u8
     ensures { result ≡ closed.closing_status (plain_asked asked.now) hub.now kept }
 {
-    let fell = asked.stops && hub.faults() > 0;
-    if !kept || fell || (asked.strict && is_stuck(hub, asked.servers.as_slice())) {
+    if !kept || has_a_fault(hub, asked) || stays_stuck(hub, asked) {
         UNWELL
     } else {
         end_status(hub.end())
     }
+}
+
+// Whether it is to stop where a thread ends at a fault, and one has.
+fn has_a_fault(hub: &Hub, asked: &Asked<'_>) -> bool
+    ensures { result ≡ closed.has_a_fault (plain_asked asked.now) hub.now }
+{
+    asked.stops && hub.faults() > 0
+}
+
+// Whether it is judged strictly, and stuck.
+fn stays_stuck(hub: &Hub, asked: &Asked<'_>) -> bool
+    ensures { result ≡ ((plain_asked asked.now).strict && is_stuck (plain_asked asked.now).servers hub.now) }
+{
+    asked.strict && is_stuck(hub, asked.servers.as_slice())
 }
 
 fn end_status(end: End) -> u8

@@ -201,16 +201,44 @@ fn explore_beside<R: Threads + Sync, E: Write>(
     ensures told { ProgramExplored options.now shows (plain_script script.now) asked.now.wanted.properties.now asked.now.servers.now (passage E.contents err.old err.new) (plain_reply [] result) }
     ensures same_err { err.new.stream.ghost_name ≡ err.old.stream.ghost_name }
 {
-    if !some_compare(asked.wanted.properties) {
-        return explore_program(rt, alloc, script, options, asked, shows, err);
+    let compare = some_compare(asked.wanted.properties);
+    if compare {
+        explore_compared(rt, alloc, script, options, asked, shows, err)
+    } else {
+        explore_program(rt, alloc, script, options, asked, shows, err)
     }
+}
+
+// The same where runs are compared.
+fn explore_compared<R: Threads + Sync, E: Write>(
+    rt: &R,
+    alloc: Global,
+    script: &Script,
+    options: &ExploreOptions<'_>,
+    asked: &Asked<'_>,
+    shows: bool,
+    err: &mut Counting<'_, E>,
+) -> Result<Reply, Refusal>
+    requires counts { IsRuns asked.now.runs × IsBudget asked.now.budget }
+    requires seeds { asked.now.first + asked.now.runs ≤ 2 ^ 64 }
+    requires asks { AsksForRuns options.now asked.now.wanted.properties.now asked.now.servers.now asked.now }
+    ensures told { ProgramExplored options.now shows (plain_script script.now) asked.now.wanted.properties.now asked.now.servers.now (passage E.contents err.old err.new) (plain_reply [] result) }
+    ensures same_err { err.new.stream.ghost_name ≡ err.old.stream.ghost_name }
+{
     match first_output(alloc, &script.program, asked) {
         Ok(first) => {
-            let wanted = Wanted {
-                properties: asked.wanted.properties,
-                first: first.as_slice(),
+            let beside = Asked {
+                budget: asked.budget,
+                first: asked.first,
+                runs: asked.runs,
+                orders: asked.orders,
+                servers: asked.servers,
+                wanted: Wanted {
+                    properties: asked.wanted.properties,
+                    first: first.as_slice(),
+                },
+                until: asked.until,
             };
-            let beside = Asked { wanted, ..*asked };
             explore_program(rt, alloc, script, options, &beside, shows, err)
         }
         Err(AllocError) => Err(Refusal::Memory),
@@ -221,7 +249,21 @@ fn explore_beside<R: Threads + Sync, E: Write>(
 fn some_compare(properties: &[Property]) -> bool
     ensures { result ≡ list_any spec.compares properties.now }
 {
-    properties.iter().any(|one| matches!(one, Property::SameLines | Property::SameOrder))
+    properties.iter().any(is_comparison)
+}
+
+// Whether it compares runs.
+fn is_comparison(property: &Property) -> bool
+    ensures { result ≡ spec.compares property.now }
+{
+    match property {
+        Property::SameLines | Property::SameOrder => true,
+        Property::Never(_)
+        | Property::Always(_)
+        | Property::Once(_)
+        | Property::Before { .. }
+        | Property::Empty => false,
+    }
 }
 
 // What the arguments ask for, where the functions of servers have these numbers.

@@ -1,24 +1,22 @@
 //! The command `replay`: a script runs again, by a schedule that was saved.
 
-ghost use Rattle.std.specs.Prelude.{◌≡◌, ◌≤◌, length, IfOk, IfErr, None, is_some, true};
-ghost use Rattle.cml_hub.specs.{Courses.{run_of}, Kept.{IsBudget, IsWatch, IsReplayed}};
-ghost use Rattle.cml_host.specs.{Closed.{IsClosed, plain_asked}, Plans.{IsItemTold}, Refused.{RefusesAs}, Replies.{Replies, behind, passage, plain_of}, Scripts.{plain_script}};
-ghost use Rattle.cml_host.specs.Replaying.{HasBadItem, IsHubOf, IsNotFollowed, ReplayOutcome, ReplayTold, ScheduleOutcome, ScriptReplayed, WantedReplayed, saves_nothing};
-ghost use Rattle.cml_host.specs.Running.{IsTold};
+ghost use Rattle.std.specs.Prelude.{◌≡◌, ◌≤◌, length, IfOk, IfErr, is_some, true};
+ghost use Rattle.cml_hub.specs.Kept.{IsBudget, IsWatch, IsReplayed};
+ghost use Rattle.cml_host.specs.{Closed.{plain_asked}, Plans.{IsItemTold}, Refused.{RefusesAs}, Replies.{passage}, Scripts.{plain_script}};
+ghost use Rattle.cml_host.specs.Replaying.{HasBadItem, IsHubOf, IsNotFollowed, ReplayOutcome, ReplayTold, ScheduleOutcome, ScriptReplayed, WantedReplayed};
 ghost use Rattle.cml_host.specs.Stores.{Shelf, IsUnchanged};
-ghost use Rattle.cml_host.specs.declared.refusal.Refusal.TheVariants.{Memory};
 
 use crate::close::{Asked, Subject, ask};
 use crate::item::{explain_item, tell_item};
 use crate::opening::{REFUSED, open_plan};
 use crate::refusal::Refusal;
-use crate::reply::{Reply, carry_out};
+use crate::reply::carry_out;
 use crate::reports::send_reports;
-use crate::run::stopped;
+use crate::run::{Saving, tell_end};
 use crate::script::{Script, open_script};
 use crate::servers::find_servers;
 use crate::store::Store;
-use crate::tell::{close_reply, hub_is_a_run, let_go};
+use crate::tell::{hub_is_a_run, let_go};
 use crate::wanted::{ALONE, find_properties};
 use cml_arguments::ReplayOptions;
 use cml_check::Prog;
@@ -171,51 +169,18 @@ fn tell_run<O: Write, E: Write, S: Store>(
 {
     hub_is_a_run(hub);
     match send_reports(hub.reports(), err) {
-        Ok(()) => tell_end(alloc, hub, asked, out, err, store),
+        Ok(()) => {
+            let saving = Saving {
+                schedule: None,
+                picture: None,
+            };
+            tell_end(alloc, hub, asked, &saving, out, err, store)
+        }
         Err(_) => {
             let why = Refusal::Line("cannot write output\n", 1);
             carry_out(alloc, "", &Err(why), out, err, store)
         }
     }
-}
-
-// Tells how the run is closed; where it is to stop, as far as it goes until it does.
-fn tell_end<O: Write, E: Write, S: Store>(
-    alloc: Global,
-    hub: &Hub,
-    asked: &Asked<'_>,
-    out: &mut Counting<'_, O>,
-    err: &mut Counting<'_, E>,
-    store: &mut S,
-) -> u8
-    ensures told { let output = passage O.contents out.old out.new in
-        let errors = passage E.contents err.old err.new in
-        let shelf : Shelf = record { before = S.holds store.old; after = S.holds store.new } in
-        Replies (IsTold (plain_asked asked.now) saves_nothing hub.now) output errors shelf result }
-    ensures same_out { out.new.stream.ghost_name ≡ out.old.stream.ghost_name }
-    ensures same_err { err.new.stream.ghost_name ≡ err.old.stream.ghost_name }
-{
-    match stopped(alloc, hub, asked) {
-        Ok(Some(other)) => {
-            let made = closed(alloc, &other, asked);
-            let status = carry_out(alloc, other.out(), &made, out, err, store);
-            let_go(other);
-            status
-        }
-        Ok(None) => {
-            let made = closed(alloc, hub, asked);
-            carry_out(alloc, hub.out(), &made, out, err, store)
-        }
-        Err(AllocError) => carry_out(alloc, hub.out(), &Err(Refusal::Memory), out, err, store),
-    }
-}
-
-// How the run is closed.
-fn closed(alloc: Global, hub: &Hub, asked: &Asked<'_>) -> Result<Reply, Refusal>
-    ensures ok { IfOk result (λ reply. IsClosed (plain_asked asked.now) None hub.now.course.program hub.now.course.items hub.now.budget (run_of hub.now.course) (behind hub.now.course.output (plain_of reply))) }
-    ensures err { IfErr result (λ why. why ≡ Memory) }
-{
-    Ok(close_reply(alloc, hub, asked, None)?)
 }
 
 // The hub that has gone through the schedule.

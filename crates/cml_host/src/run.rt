@@ -342,8 +342,8 @@ where
     }
 }
 
-// Tells the run of this hub, which is over; where it is to stop, as far as it goes until it does.
-fn tell_end<O: Write, E: Write, S: Store>(
+/// Tells the run of this hub, which is over; where it is to stop, as far as it goes until it does. It returns the status.
+pub fn tell_end<O: Write, E: Write, S: Store>(
     alloc: Global,
     hub: &Hub,
     asked: &Asked<'_>,
@@ -361,20 +361,21 @@ fn tell_end<O: Write, E: Write, S: Store>(
 {
     match stopped(alloc, hub, asked) {
         Ok(Some(other)) => {
+            hub_is_a_run(&other);
             let status = tell_whole(alloc, &other, asked, saving, out, err, store);
             let_go(other);
             status
         }
-        Ok(None) => tell_whole(alloc, hub, asked, saving, out, err, store),
+        Ok(None) => {
+            hub_is_a_run(hub);
+            tell_whole(alloc, hub, asked, saving, out, err, store)
+        }
         Err(AllocError) => carry_out(alloc, hub.out(), &Err(Refusal::Memory), out, err, store),
     }
 }
 
-/// A hub that stands where the run of this one stops, where it is to stop and does.
-///
-/// # Errors
-/// Out of memory.
-pub fn stopped(alloc: Global, hub: &Hub, asked: &Asked<'_>) -> Result<Option<Hub>, AllocError>
+// A hub that stands where the run of this one stops, where it is to stop and does.
+fn stopped(alloc: Global, hub: &Hub, asked: &Asked<'_>) -> Result<Option<Hub>, AllocError>
     ensures { IfOk result (IsStoppedIf (plain_asked asked.now) hub.now) }
 {
     if asked.stops {

@@ -1,8 +1,9 @@
 //! What must hold of runs, as the arguments give it.
 
-ghost use Rattle.std.specs.Prelude.{◌≡◌, ◌++◌, ◌∷◌, [], IfErr, IfOk, List, OnOk, map, option_map};
+ghost use Rattle.std.specs.Prelude.{◌≡◌, ◌++◌, ◌∷◌, [], IfErr, IfOk, List, Ok, OnOk, Some, map, option_map};
 ghost use Rattle.cml_host.specs.{Refused.{IsExplained, RefusesAs}, Stores.{IsUnchanged}};
-ghost use Rattle.cml_host.specs.Wanted.{AreGiven, AreWanted, FileSays, FileSaysNone, IsNoPattern, IsUnwanted, property_if};
+ghost use Rattle.cml_host.specs.Wanted.{AreGiven, AreWanted, FileSays, FileSaysNone, IsBadPattern, IsNoPattern, IsUnwanted, SaysNone, file_line, option_line, property_if};
+ghost use Rattle.cml_properties.specs.Reading.{PatternsGive, TextSays};
 ghost use Rattle.cml_properties.specs.declared.property.Property.{Property};
 
 use crate::reason::explained;
@@ -119,7 +120,10 @@ fn given(
     kind: PropertyKind,
     text: &str,
     explains: bool,
-) -> Result<Property, Refusal> {
+) -> Result<Property, Refusal>
+    ensures ok { IfOk result (λ found. PatternsGive kind 0 0 text.now (Ok found)) }
+    ensures err { IfErr result (RefusesAs (IsBadPattern explains kind text.now)) }
+{
     match property_from(alloc, kind, text.as_bytes()) {
         Ok(property) => Ok(property),
         Err(PropertyFault::Memory) => Err(Refusal::Memory),
@@ -138,13 +142,26 @@ fn told_option(
     explains: bool,
     why: PropertyFaultKind,
     at: usize,
-) -> Result<Vec<u8>, AllocError> {
+) -> Result<Vec<u8>, AllocError>
+    ensures { IfOk result (λ told. IsExplained explains (option_line kind why at) told.items) }
+{
     let word = kind.word();
     let fault = PropertyFault::At { kind: why, at };
     let line = format!(in alloc; "--{word}: {fault}\n")?;
-    let name = format!(in alloc; "--{word}")?;
-    let words = explain_fault(alloc, name.as_str(), text.as_bytes(), why, at)?;
+    let words = option_words(alloc, word, text.as_bytes(), why, at)?;
     explained(alloc, line.as_bytes(), explains, words.as_slice())
+}
+
+// What is wrong with the text of the option of this word, in words.
+fn option_words(
+    alloc: Global,
+    word: &str,
+    text: &[u8],
+    why: PropertyFaultKind,
+    at: usize,
+) -> Result<Vec<u8>, AllocError> {
+    let name = format!(in alloc; "--{word}")?;
+    explain_fault(alloc, name.as_str(), text, why, at)
 }
 
 // Appends a property, where it is asked for.
@@ -173,13 +190,20 @@ fn push_file<S: Store>(
     match file {
         Some(name) => {
             let more = read_file(alloc, name, explains, store)?;
-            for property in more {
-                push_one(found, property)?;
-            }
-            Ok(())
+            Ok(push_all(found, more)?)
         }
         None => Ok(()),
     }
+}
+
+// Appends properties.
+fn push_all(found: &mut Vec<Property>, more: Vec<Property>) -> Result<(), AllocError>
+    ensures { OnOk result (found.new.items ≡ found.old.items ++ more.items) }
+{
+    for property in more {
+        found.push(property)?;
+    }
+    Ok(())
 }
 
 // The properties of the file of this name.
@@ -188,13 +212,30 @@ fn read_file<S: Store>(
     name: &str,
     explains: bool,
     store: &mut S,
-) -> Result<Vec<Property>, Refusal> {
+) -> Result<Vec<Property>, Refusal>
+    ensures ok { IfOk result (λ more. FileSays (Some name.now) (S.holds store.old) more.items) }
+    ensures err { IfErr result (RefusesAs (FileSaysNone explains (Some name.now) (S.holds store.old))) }
+    ensures same { IsUnchanged (S.holds store.old) (S.holds store.new) }
+{
     let text = load(alloc, name, explains, TEXT_LIMIT, store)?;
-    match properties(alloc, text.as_slice()) {
+    said(alloc, name, text.as_slice(), explains)
+}
+
+// The properties that this text says.
+fn said(
+    alloc: Global,
+    name: &str,
+    text: &[u8],
+    explains: bool,
+) -> Result<Vec<Property>, Refusal>
+    ensures ok { IfOk result (λ more. TextSays text.now (Ok more.items)) }
+    ensures err { IfErr result (RefusesAs (SaysNone explains text.now)) }
+{
+    match properties(alloc, text) {
         Ok(found) => Ok(found),
         Err(PropertyFault::Memory) => Err(Refusal::Memory),
         Err(PropertyFault::At { kind, at }) => {
-            let told = told_file(alloc, name, text.as_slice(), explains, kind, at)?;
+            let told = told_file(alloc, name, text, explains, kind, at)?;
             Err(Refusal::Told(told, NO_PROPERTY))
         }
     }
@@ -208,7 +249,9 @@ fn told_file(
     explains: bool,
     why: PropertyFaultKind,
     at: usize,
-) -> Result<Vec<u8>, AllocError> {
+) -> Result<Vec<u8>, AllocError>
+    ensures { IfOk result (λ told. IsExplained explains (file_line why at) told.items) }
+{
     let fault = PropertyFault::At { kind: why, at };
     let line = format!(in alloc; "{fault}\n")?;
     let words = explain_fault(alloc, name, text, why, at)?;

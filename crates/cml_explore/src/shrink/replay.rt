@@ -1,8 +1,9 @@
 //! One try: a schedule is replayed, to see how it ends.
 
-ghost use Rattle.std.specs.Prelude.{IfOk, MatchResult, None};
+ghost use Rattle.std.specs.Prelude.{◌≡◌, true, IfOk, MatchResult, None};
 ghost use Rattle.cml_hub.specs.Kept.{IsBudget, IsReplayed};
-ghost use Rattle.cml_explore.specs.ShrinkEnds.{EndsWith, IsGiven, IsNotGiven, IsRefused, HubEndsWith, IsWhy, IsJudged};
+ghost use Rattle.cml_explore.specs.ShrinkEnds.{EndsWith, IsGiven, IsNotGiven, IsRefused, HubEndsWith, IsWhy, IsLikeTheGiven};
+ghost use Rattle.cml_explore.specs.ShrinkEnds as spec;
 
 use crate::shrink::fault::ShrinkFault;
 use cml_check::Prog;
@@ -111,15 +112,42 @@ pub(crate) fn count_given(
     requires { IsBudget asked.now.budget }
     ensures { MatchResult result (IsGiven program.now asked.now items.now) (λ why. IsNotGiven program.now asked.now items.now why) }
 {
-    if !asked.stops {
-        return Ok(items.len());
+    if asked.stops {
+        count_stopped(alloc, program, asked, items)
+    } else {
+        Ok(items.len())
     }
-    let hub = followed(alloc, program, asked, items)?;
-    let stops = stop_of(alloc, asked.properties, &hub);
-    let_go(hub);
-    match stops? {
-        Some(count) => Ok(count),
-        None => Err(ShrinkFault::NoBreak),
+}
+
+// The same where the run is to stop.
+fn count_stopped(
+    alloc: Global,
+    program: &Prog,
+    asked: &Asked<'_>,
+    items: &[Item],
+) -> Result<usize, ShrinkFault>
+    requires budget { IsBudget asked.now.budget }
+    requires stops { asked.now.stops ≡ true }
+    ensures { MatchResult result (IsGiven program.now asked.now items.now) (λ why. IsNotGiven program.now asked.now items.now why) }
+{
+    match followed(alloc, program, asked, items) {
+        Ok(hub) => {
+            let stops = stop_of(alloc, asked.properties, &hub);
+            let_go(hub);
+            given_by(stops)
+        }
+        Err(why) => Err(why),
+    }
+}
+
+// How many items there are where a run stops so, or that it does not.
+fn given_by(stops: Result<Option<usize>, AllocError>) -> Result<usize, ShrinkFault>
+    ensures { result ≡ spec.given_by stops }
+{
+    match stops {
+        Ok(Some(count)) => Ok(count),
+        Ok(None) => Err(ShrinkFault::NoBreak),
+        Err(AllocError) => Err(ShrinkFault::Memory),
     }
 }
 
@@ -129,7 +157,7 @@ pub(crate) fn count_given(
 /// Out of memory.
 pub(crate) fn ends_alike(alloc: Global, goal: &Goal<'_>, items: &[Item]) -> Result<bool, AllocError>
     requires { IsBudget goal.now.asked.budget }
-    ensures { IfOk result (λ alike. IsJudged goal.now.program.now goal.now.asked goal.now.details.now items.now alike) }
+    ensures { IfOk result (λ alike. IsLikeTheGiven goal.now.program.now goal.now.asked goal.now.details.now items.now alike) }
 {
     match end_details(alloc, goal.program, &goal.asked, items) {
         Ok(details) => Ok(details.as_slice() == goal.details),

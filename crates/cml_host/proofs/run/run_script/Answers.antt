@@ -18,7 +18,7 @@ returns-in-Ok-clause-ran g c =
     let store : Shelf = record { before = g.S.Store.holds c.args.store.now; after = g.S.Store.holds c.run_so.new.store } in
     let s = plain_script c.args.script in
     let saving = plain_saving c.saving_for-saving.result in
-    opened_ran c.args.explains s c.args.options.now c.in-Ok.servers.items (plain_asked c.ask-program.result.1) saving c.ask-program.result.0 output errors store c.run_so.result
+    opened_ran c.args.explains s c.args.wanted.items c.args.options.now c.in-Ok.servers.items (plain_asked c.ask-program.result.1) saving c.ask-program.result.0 output errors store c.run_so.result
     (subst (λ (ns : List (Bor (List ℕ))). first_unknown s (map (λ name. name.now) ns) ≡ None) c.as_slice.ensures.value c.in-Ok.ensures.known)
     (c.in-Ok.ensures.found ∙ ap (λ (ns : List (Bor (List ℕ))). server_numbers s (map (λ name. name.now) ns)) c.as_slice.ensures.value)
     c.ask-program.ensures.program c.ask-program.ensures.asked
