@@ -8,14 +8,13 @@ use Rattle.cml_check.specs.Syntax.{PlainItem}
 use Rattle.cml_hub.specs.Courses.{run_of}
 use Rattle.cml_hub.specs.Kept.{Kept, IsAtStart}
 use Rattle.cml_hub.specs.Runs.{ending}
-use Rattle.cml_facts.specs.Stuck.{is_stuck}
 use Rattle.cml_judge.specs.Judgements.{IsJudgedAlone, are_all_kept}
 use Rattle.cml_properties.specs.declared.property.Property.{Property}
 use Rattle.cml_schedule.specs.Written.{schedule_text}
 use Rattle.cml_schedule.specs.declared.item.Item.{Item}
 use Rattle.cml_arguments.specs.declared.ReplayOptions.{ReplayOptions}
 use Rattle.cml_host.specs.Behind.{RepliesAfter}
-use Rattle.cml_host.specs.Closed.{PlainAsked, IsClosed, IsClosing, IsHubAt, MaySay, closing_status, has_a_fault, is_asked, schedule_file}
+use Rattle.cml_host.specs.Closed.{PlainAsked, IsClosed, IsClosing, IsHubAt, MaySay, closing_status, is_asked, is_unwell, schedule_file}
 use Rattle.cml_host.specs.Replaying.{IsHubOf, IsReplayReply, ReplayTold, ScheduleOutcome, ScriptReplayed, replay_asked, saves_nothing}
 use Rattle.cml_host.specs.Running.{IsTold}
 use Rattle.cml_host.specs.Replies.{File, IsCarriedOut, Moment, Passage, Replies, behind, broken, file, plain_file, plain_of, since, upto}
@@ -79,13 +78,13 @@ none_or (Ok x) [] old new some = λ none. cc
 none_or (Ok x) (p ∷ properties) old new some = λ none. cc
 none_or (Err e) properties old new some = tt
 
--- the status is 6 for one of three reasons, or none of them
-pub status_kept : (asked : PlainAsked) (h : Kept) (kept fell stuck : Bool) (other : ℕ) → fell ≡ has_a_fault asked h → stuck ≡ (asked.strict && is_stuck asked.servers h)
-    → other ≡ end_status (ending h.budget (run_of h.course)) → (if not kept || (fell || stuck) then 6 else other) ≡ closing_status asked h kept
-status_kept asked h kept fell stuck other one two three =
-    ap (λ (b : Bool). if not kept || (b || stuck) then 6 else other) one
-    ∙ (ap (λ (b : Bool). if not kept || (has_a_fault asked h || b) then 6 else other) two
-    ∙ ap (λ (n : ℕ). if not kept || (has_a_fault asked h || (asked.strict && is_stuck asked.servers h)) then 6 else n) three)
+-- the status is 6, or that of the end
+pub status_bad : (asked : PlainAsked) (h : Kept) (kept unwell : Bool) → unwell ≡ is_unwell asked h kept → unwell ≡ true → 6 ≡ closing_status asked h kept
+status_bad asked h kept unwell is so = sym (ap (λ (b : Bool). if b then 6 else end_status (ending h.budget (run_of h.course))) (sym is ∙ so))
+
+pub status_fine : (asked : PlainAsked) (h : Kept) (kept unwell : Bool) (n : ℕ) → unwell ≡ is_unwell asked h kept → unwell ≡ false → n ≡ end_status (ending h.budget (run_of h.course))
+    → n ≡ closing_status asked h kept
+status_fine asked h kept unwell n is so end = end ∙ sym (ap (λ (b : Bool). if b then 6 else end_status (ending h.budget (run_of h.course))) (sym is ∙ so))
 
 -- a run was closed, and was judged so
 pub closing_so : (asked : PlainAsked) (h : Kept) (properties : List Property) (judged slice : List (Option ℕ)) (kept : Bool) (closing : Closing) → properties ≡ asked.properties

@@ -35,11 +35,14 @@ is_asked (a ∷ rest) = true
 abbrev pub has_a_fault : PlainAsked → Kept → Bool
 has_a_fault asked h = asked.stops && nat_lt 0 (fault_count (text_of h.course.program) h.course.items)
 
--- The status: 6 where a property is broken, where the run stops at a fault, or where it is judged strictly and is stuck, which is where nothing is
--- left to do and a thread waits that is no server, or a thread ended at a fault; else that of its end.
+-- A property is broken, the run stops at a fault, or it is judged strictly and is stuck, which is where nothing is left to do and a thread waits that is
+-- no server, or a thread ended at a fault.
+abbrev pub is_unwell : PlainAsked → Kept → Bool → Bool
+is_unwell asked h kept = not kept || (has_a_fault asked h || (asked.strict && is_stuck asked.servers h))
+
+-- the status: 6 where that is so; else that of its end
 abbrev pub closing_status : PlainAsked → Kept → Bool → ℕ
-closing_status asked h kept =
-    if not kept || (has_a_fault asked h || (asked.strict && is_stuck asked.servers h)) then 6 else end_status (ending h.budget (run_of h.course))
+closing_status asked h kept = if is_unwell asked h kept then 6 else end_status (ending h.budget (run_of h.course))
 
 -- a hub of this program, under this budget, that these items have led to where this run stands
 pub record IsHubAt (p : List (PlainItem ℕ)) (budget : ℕ) (items : List Item) (r : Run) (h : Kept) : Type 0 where

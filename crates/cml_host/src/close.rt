@@ -90,7 +90,8 @@ pub fn ask<'a>(
     ensures kept { is_some result.1.subject ≡ explains || (draws || is_asked properties.items) }
 {
     let (program, subject) = subject_of(name, script);
-    let subject = keep_where(subject, explains, keeps(draws, properties.as_slice()));
+    let keeps = either(draws, some_asked(properties.as_slice()));
+    let subject = keep_where(subject, explains, keeps);
     let asked = Asked {
         subject,
         explains,
@@ -102,11 +103,18 @@ pub fn ask<'a>(
     (program, asked)
 }
 
-// Whether the script is kept for what is asked for besides.
-fn keeps(draws: bool, properties: &[Property]) -> bool
-    ensures { result ≡ draws || is_asked properties.now }
+// Whether properties are wanted.
+fn some_asked(properties: &[Property]) -> bool
+    ensures { result ≡ is_asked properties.now }
 {
-    draws || !properties.is_empty()
+    !properties.is_empty()
+}
+
+// Whether one of them holds.
+fn either(one: bool, other: bool) -> bool
+    ensures { result ≡ one || other }
+{
+    one || other
 }
 
 // The script, where the end is explained or it is asked for.
@@ -208,11 +216,19 @@ fn push_faults(
 fn closing_status(hub: &Hub, asked: &Asked<'_>, kept: bool) -> u8
     ensures { result ≡ closed.closing_status (plain_asked asked.now) hub.now kept }
 {
-    if !kept || has_a_fault(hub, asked) || stays_stuck(hub, asked) {
+    let unwell = is_unwell(hub, asked, kept);
+    if unwell {
         UNWELL
     } else {
         end_status(hub.end())
     }
+}
+
+// Whether a property is broken, or it stops at a fault, or is judged strictly and stuck.
+fn is_unwell(hub: &Hub, asked: &Asked<'_>, kept: bool) -> bool
+    ensures { result ≡ closed.is_unwell (plain_asked asked.now) hub.now kept }
+{
+    either(!kept, either(has_a_fault(hub, asked), stays_stuck(hub, asked)))
 }
 
 // Whether it is to stop where a thread ends at a fault, and one has.
