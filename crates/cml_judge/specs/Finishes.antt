@@ -12,13 +12,13 @@ use Rattle.cml_properties.specs.declared.property.Finish.{Finish}
 use Rattle.cml_properties.specs.declared.property.Finish.TheVariants.{GoesOn, Emptied, HasItems}
 
 -- it holds an item
-abbrev pub is_filled : List PlainValue → Bool
-is_filled [] = false
-is_filled (v ∷ vs) = true
+abbrev pub has_an_item : List PlainValue → Bool
+has_an_item [] = false
+has_an_item (v ∷ vs) = true
 
 -- some mailbox or port holds an item that nobody took
 abbrev pub has_items_left : PlainWorld → Bool
-has_items_left w = list_any is_filled w.mailboxes || list_any is_filled w.ports
+has_items_left w = list_any has_an_item w.mailboxes || list_any has_an_item w.ports
 
 -- A run has ended where nothing is left to do; where it was cut off, or something is left to do, it goes on.
 abbrev pub finish_in : End → Bool → Finish

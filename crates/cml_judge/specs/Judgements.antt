@@ -30,8 +30,8 @@ pub record IsJudgedAlone (properties : List Property) (h : Kept) (judged : List 
   pub are : AreJudged (lines h.course.output) run properties judged
 
 -- no property is broken
-abbrev pub is_kept : List (Option ℕ) → Bool
-is_kept judged = list_all is_none judged
+abbrev pub are_all_kept : List (Option ℕ) → Bool
+are_all_kept judged = list_all is_none judged
 
 -- the numbers of the properties that are broken, of which the first has this number, as details of how the run ended
 abbrev pub break_details : ℕ → List (Option ℕ) → List Detail

@@ -36,15 +36,15 @@ pub record IsSpot (h : Kept) (number : ℕ) (spot : Spot) : Type 0 where
   pub turn : IsTurnOf h.course.items spot.item spot.thread.0
 
 -- Where the line is, if the run has so many; behind its last line is its end.
-abbrev pub IsSpotOf : Kept → ℕ → Option Spot → Type 0
-IsSpotOf h number (Some spot) = IsSpot h number spot
-IsSpotOf h number None = length (lines h.course.output) ≤ number
+abbrev pub IsSpotOfLine : Kept → ℕ → Option Spot → Type 0
+IsSpotOfLine h number (Some spot) = IsSpot h number spot
+IsSpotOfLine h number None = length (lines h.course.output) ≤ number
 
 -- that the property of this number breaks at this line
 pub record IsBreak (h : Kept) (property line : ℕ) (b : Break) : Type 0 where
   pub property_is : b.property ≡ property
   pub line_is : b.line ≡ line
-  pub spot_is : IsSpotOf h line b.spot
+  pub spot_is : IsSpotOfLine h line b.spot
 
 -- What is told of these properties, of which the first has this number: of each that is broken where it is.
 abbrev pub AreBreaksFrom : Kept → ℕ → List (Option ℕ) → List Break → Type 0
@@ -52,3 +52,15 @@ AreBreaksFrom h n [] told = told ≡ []
 AreBreaksFrom h n (None ∷ judged) told = AreBreaksFrom h (suc n) judged told
 AreBreaksFrom h n (Some line ∷ judged) told =
     (b : Break) × (others : List Break) × IsBreak h n line b × AreBreaksFrom h (suc n) judged others × (told ≡ b ∷ others)
+
+-- ---- what private functions say
+
+-- The byte of this number was printed by the item that the spot tells, a turn of the thread that it tells.
+pub record IsSpotOfByte (p : Program) (items : List Item) (at : ℕ) (spot : Spot) : Type 0 where
+  pub printed : IsPrintedBy p items at spot.item
+  pub turn : IsTurnOf items spot.item spot.thread.0
+
+-- the thread whose turn the item is, which has this number
+pub record IsTurnSpot (item : Item) (number : ℕ) (spot : Spot) : Type 0 where
+  pub number_is : spot.item ≡ number
+  pub turn : item ≡ Turn spot.thread

@@ -1,20 +1,17 @@
 -- Where a run is stopped: at the first item behind which a property is broken, or a thread has ended at a fault.
-use Rattle.std.specs.Prelude.{◌≡◌, ◌⊎◌, ℕ, ◌<◌, ◌≤◌, Bool, true, false, IsFalse, List, [], ◌∷◌, length, take, Option, Some, None, IsSomeAnd, Contains}
+use Rattle.std.specs.Prelude.{◌≡◌, ◌⊎◌, ◌↔◌, ℕ, ◌<◌, ◌≤◌, min, nat_lt, Bool, true, false, ◌||◌, IsTrue, IsFalse, List, [], ◌∷◌, length, take, Option, Some, None, IsSomeAnd, Contains}
 use Rattle.cml_text.specs.Lines.{lines}
 use Rattle.cml_hub.specs.Deeds.{fault_count}
 use Rattle.cml_hub.specs.Kept.{Kept}
-use Rattle.cml_hub.specs.Runs.{stands}
+use Rattle.cml_hub.specs.Runs.{Run, stands}
 use Rattle.cml_schedule.specs.declared.item.Item.{Item}
 use Rattle.cml_step.specs.Calls.{text_of}
 use Rattle.cml_step.specs.Terms.{Program}
 use Rattle.cml_properties.specs.declared.property.Property.{Property}
 use Rattle.cml_properties.specs.declared.property.Finish.TheVariants.{GoesOn}
-use Rattle.cml_properties.specs.declared.watch.Watch.{Watch}
 use Rattle.cml_properties.specs.Breaches.{AreLinesOf}
 use Rattle.cml_properties.specs.Lines.{PlainLine}
 use Rattle.cml_properties.specs.Properties.{keeps}
-use Rattle.cml_properties.specs.Watches.{HasSeen}
-use Rattle.cml_judge.specs.declared.watched.Watched.{Watched}
 
 -- what was printed breaks one of the properties, however the run goes on
 abbrev pub BreaksOne : List Property → List ℕ → Type 0
@@ -22,19 +19,19 @@ BreaksOne properties output =
     (property : Property) × Contains properties property × ((printed : List PlainLine) × AreLinesOf (lines output) printed × IsFalse (keeps property printed GoesOn))
 
 -- Behind these items what was printed breaks one of the properties, or a thread has ended at a fault.
-abbrev pub IsBroken : List Property → Program → List Item → Type 0
-IsBroken properties p items = IsSomeAnd (stands p items) (λ r. BreaksOne properties r.output ⊎ (0 < fault_count p items))
+abbrev pub IsBrokenAfter : List Property → Program → List Item → Type 0
+IsBrokenAfter properties p items = IsSomeAnd (stands p items) (λ r. BreaksOne properties r.output ⊎ (0 < fault_count p items))
 
 -- The run is stopped behind so many items: it is broken there, and behind no fewer.
 pub record StopsBehind (properties : List Property) (p : Program) (items : List Item) (n : ℕ) : Type 0 where
   pub within : n ≤ length items
-  pub broken : IsBroken properties p (take n items)
-  pub first : (k : ℕ) → k < n → IsBroken properties p (take k items) → ⊥
+  pub broken : IsBrokenAfter properties p (take n items)
+  pub first : (k : ℕ) → k < n → IsBrokenAfter properties p (take k items) → ⊥
 
 -- where it is stopped, if it is
-abbrev pub StopsAt : List Property → Program → List Item → Option ℕ → Type 0
-StopsAt properties p items (Some n) = StopsBehind properties p items n
-StopsAt properties p items None = (k : ℕ) → IsBroken properties p (take k items) → ⊥
+abbrev pub StopsAfter : List Property → Program → List Item → Option ℕ → Type 0
+StopsAfter properties p items (Some n) = StopsBehind properties p items n
+StopsAfter properties p items None = (k : ℕ) → IsBrokenAfter properties p (take k items) → ⊥
 
 -- the items up to there, or all
 abbrev pub items_until : Option ℕ → List Item → List Item
@@ -44,7 +41,7 @@ items_until None items = items
 -- What is told of a run: all of it; or, where it is to stop, as far as it goes until it is stopped.
 abbrev pub IsToldUpTo : Bool → List Property → Program → List Item → List Item → Type 0
 IsToldUpTo false properties p items told = told ≡ items
-IsToldUpTo true properties p items told = (count : Option ℕ) × StopsAt properties p items count × (told ≡ items_until count items)
+IsToldUpTo true properties p items told = (count : Option ℕ) × StopsAfter properties p items count × (told ≡ items_until count items)
 
 -- the run of the same program under the same budget by the items up to where it is stopped
 pub record IsStoppedHub (properties : List Property) (h other : Kept) (n : ℕ) : Type 0 where
@@ -54,22 +51,46 @@ pub record IsStoppedHub (properties : List Property) (h other : Kept) (n : ℕ) 
   pub items : other.course.items ≡ take n h.course.items
 
 -- that, or that the run is not stopped
-abbrev pub IsStopped : List Property → Kept → Option Kept → Type 0
-IsStopped properties h (Some other) = (n : ℕ) × IsStoppedHub properties h other n
-IsStopped properties h None = StopsAt properties (text_of h.course.program) h.course.items None
+abbrev pub IsStoppedThere : List Property → Kept → Option Kept → Type 0
+IsStoppedThere properties h (Some other) = (n : ℕ) × IsStoppedHub properties h other n
+IsStoppedThere properties h None = StopsAfter properties (text_of h.course.program) h.course.items None
 
 -- ---- what private functions say
 
--- each of the properties was watched while these lines were printed, and none is broken
-abbrev pub EachSeen : List Property → List Watch → List PlainLine → Type 0
-EachSeen [] [] printed = Unit {0}
-EachSeen (property ∷ properties) (watch ∷ watches) printed =
-    (watch.property.now ≡ property) × HasSeen watch printed × EachSeen properties watches printed
-EachSeen _ _ printed = ⊥
+-- of two lines, each of which may be none, the first
+abbrev pub earlier : Option ℕ → Option ℕ → Option ℕ
+earlier None other = other
+earlier (Some one) None = Some one
+earlier (Some one) (Some other) = Some (min one other)
 
--- what was printed so far was looked at, and breaks none of the properties
-pub record HasLooked (properties : List Property) (w : Watched) (output : List ℕ) : Type 0 where
-  pub read : w.read ≡ length output
-  pub printed : List PlainLine
-  pub are : AreLinesOf (lines output) printed
-  pub each : EachSeen properties w.watches.items printed
+-- the first of these lines
+abbrev pub earliest : List (Option ℕ) → Option ℕ
+earliest [] = None
+earliest (line ∷ lines) = earlier line (earliest lines)
+
+-- the place of this number is within so many
+abbrev pub is_within : Option ℕ → ℕ → Bool
+is_within None count = false
+is_within (Some place) count = nat_lt place count
+
+-- Wherever the run stands after some of these items, what it has printed breaks one of the properties exactly if the byte of this number is among that.
+abbrev pub TellsBreaks : List Property → Program → List Item → Option ℕ → Type 0
+TellsBreaks properties p items at =
+    (k : ℕ) (r : Run) → stands p (take k items) ≡ Some r → BreaksOne properties r.output ↔ IsTrue (is_within at (length r.output))
+
+-- Behind these items the byte of this number was printed, or a thread has ended at a fault.
+abbrev pub has_come : Option ℕ → Program → List Item → Run → Bool
+has_come at p items r = is_within at (length r.output) || nat_lt 0 (fault_count p items)
+
+abbrev pub HasCome : Option ℕ → Program → List Item → Type 0
+HasCome at p items = IsSomeAnd (stands p items) (λ r. IsTrue (has_come at p items r))
+
+-- That is so behind so many items, and behind no fewer.
+pub record ComesBehind (at : Option ℕ) (p : Program) (items : List Item) (n : ℕ) : Type 0 where
+  pub within : n ≤ length items
+  pub come : HasCome at p (take n items)
+  pub first : (k : ℕ) → k < n → HasCome at p (take k items) → ⊥
+
+abbrev pub ComesAfter : Option ℕ → Program → List Item → Option ℕ → Type 0
+ComesAfter at p items (Some n) = ComesBehind at p items n
+ComesAfter at p items None = (k : ℕ) → HasCome at p (take k items) → ⊥

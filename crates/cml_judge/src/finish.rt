@@ -3,7 +3,9 @@
 ghost use Rattle.std.specs.{Prelude.{◌≡◌}, List.{list_any}};
 ghost use Rattle.cml_judge.specs.Finishes as spec;
 
+use cml_book::Book;
 use cml_hub::{End, Hub};
+use cml_index::OfferIndex;
 use cml_properties::Finish;
 use cml_value::{MboxId, PortId};
 
@@ -18,11 +20,12 @@ fn are_some(count: Option<usize>) -> bool
 }
 
 // Whether some mailbox holds an item.
-fn some_mailbox(hub: &Hub) -> bool
-    ensures { result ≡ list_any spec.is_filled hub.now.course.world.mailboxes }
+fn some_mailbox(book: &Book<OfferIndex>) -> bool
+    ensures { result ≡ list_any spec.has_an_item book.now.mailboxes }
 {
-    for mailbox in 0..hub.book().next_objects().mailbox.0 {
-        if are_some(hub.book().mailbox_len(MboxId(mailbox))) {
+    for mailbox in 0..book.next_objects().mailbox.0 {
+        let has = are_some(book.mailbox_len(MboxId(mailbox)));
+        if has {
             return true;
         }
     }
@@ -30,11 +33,12 @@ fn some_mailbox(hub: &Hub) -> bool
 }
 
 // Whether some port does.
-fn some_port(hub: &Hub) -> bool
-    ensures { result ≡ list_any spec.is_filled hub.now.course.world.ports }
+fn some_port(book: &Book<OfferIndex>) -> bool
+    ensures { result ≡ list_any spec.has_an_item book.now.ports }
 {
-    for port in 0..hub.book().next_objects().port.0 {
-        if are_some(hub.book().port_len(PortId(port))) {
+    for port in 0..book.next_objects().port.0 {
+        let has = are_some(book.port_len(PortId(port)));
+        if has {
             return true;
         }
     }
@@ -42,10 +46,10 @@ fn some_port(hub: &Hub) -> bool
 }
 
 // Whether an item is left that nobody took.
-fn has_items_left(hub: &Hub) -> bool
-    ensures { result ≡ spec.has_items_left hub.now.course.world }
+fn has_items_left(book: &Book<OfferIndex>) -> bool
+    ensures { result ≡ spec.has_items_left book.now }
 {
-    some_mailbox(hub) || some_port(hub)
+    some_mailbox(book) || some_port(book)
 }
 
 // How far a run has come that stands so, where items are left or not.
@@ -64,5 +68,5 @@ fn finish_in(end: End, items: bool) -> Finish
 pub fn finish_of(hub: &Hub) -> Finish
     ensures { result ≡ spec.finish_at hub.now }
 {
-    finish_in(hub.end(), has_items_left(hub))
+    finish_in(hub.end(), has_items_left(hub.book()))
 }

@@ -56,7 +56,7 @@ pub fn judge_alone(
 
 /// Whether no property is broken.
 pub fn are_all_kept(judged: &[Option<usize>]) -> bool
-    ensures { result ≡ spec.is_kept judged.now }
+    ensures { result ≡ spec.are_all_kept judged.now }
 {
     judged.iter().all(|line| line.is_none())
 }

@@ -7,7 +7,6 @@ mod finish;
 mod judged;
 mod spot;
 mod stop;
-mod watched;
 
 pub use breaks::{Break, breaks_of};
 pub use details::{details_with, goal_details};

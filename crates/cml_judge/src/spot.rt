@@ -1,11 +1,13 @@
 //! By which item of a run a line was printed.
 
-ghost use Rattle.std.specs.Prelude.{◌≡◌, ◌<◌, ◌≤◌, ◌+◌, suc, ℕ, IfOk, MatchOption, length, take};
+ghost use Rattle.std.specs.Prelude.{◌≡◌, ◌<◌, ◌≤◌, IfOk, MatchOption, length};
 ghost use Rattle.cml_facts.specs.Again.{RunsAgain};
-ghost use Rattle.cml_judge.specs.Spots.{IsPrintedBy, IsSpotOf, IsTurnOf};
+ghost use Rattle.cml_judge.specs.Spots.{IsSpotOfByte, IsSpotOfLine, IsTurnSpot};
 ghost use Rattle.cml_judge.specs.Spots as spec;
+ghost use Rattle.cml_schedule.specs.declared.item.Item.TheVariants.{Turn};
 ghost use Rattle.cml_step.specs.Calls.{text_of};
 ghost use Rattle.cml_text.specs.Lines as text;
+ghost use Rattle.cml_value.specs.declared.number.Tid.{Tid};
 
 use cml_facts::ending::{begin_again, come, let_go};
 use cml_hub::{Hub, Item};
@@ -22,8 +24,8 @@ pub struct Spot {
     pub thread: Tid,
 }
 
-// The byte at which the line of this number begins, if there are so many lines.
-fn start_of(output: &[u8], number: usize) -> Option<usize>
+/// The byte at which the line of this number begins, if there are so many lines.
+pub(crate) fn start_of(output: &[u8], number: usize) -> Option<usize>
     ensures { MatchOption result
         (length (text.lines output.now) ≤ number)
         (λ at. (number < length (text.lines output.now)) × (at ≡ spec.line_start (text.lines output.now) number)) }
@@ -41,51 +43,58 @@ fn start_of(output: &[u8], number: usize) -> Option<usize>
     None
 }
 
-// The item of the hub's schedule by which the byte of this number was printed, counted from 1. The items come in the second hub.
-fn item_in(
+// Where a turn of a thread is told, if the item, which has this number, is one.
+fn turn_spot(item: Item, number: usize) -> Option<Spot>
+    ensures { MatchOption result ((thread : Tid) → item ≡ Turn thread → ⊥) (IsTurnSpot item number) }
+{
+    match item {
+        Item::Turn(thread) => Some(Spot {
+            item: number,
+            thread,
+        }),
+        Item::Meet(_) => None,
+        Item::Exchange(_) => None,
+        Item::Clock(_) => None,
+    }
+}
+
+// Where the byte of this number was printed by an item of the hub's schedule, if it was. The items come in the second hub.
+fn spot_in(
     alloc: Global,
     hub: &Hub,
     second: &mut Hub,
     at: usize,
-) -> Result<Option<usize>, AllocError>
+) -> Result<Option<Spot>, AllocError>
     requires begun { RunsAgain hub.now second.old 0 }
-    ensures { IfOk result (λ item. MatchOption item
+    ensures { IfOk result (λ spot. MatchOption spot
         (length hub.now.course.output ≤ at)
-        (IsPrintedBy (text_of hub.now.course.program) hub.now.course.items at)) }
+        (IsSpotOfByte (text_of hub.now.course.program) hub.now.course.items at)) }
 {
     let items = hub.schedule();
     for i in 0..items.len() {
         // No effect: named here so that the prover knows what holds of it.
         let _so_far = second.schedule();
-        come(alloc, second, items[i])?;
-        if second.out().len() > at {
-            return Ok(Some(i + 1));
+        let item = items[i];
+        come(alloc, second, item)?;
+        let _by_now = second.schedule();
+        let printed = second.out().len();
+        if printed > at {
+            return Ok(turn_spot(item, i + 1));
         }
     }
     Ok(None)
 }
 
 // The same, by a second hub that is let go.
-fn item_of(alloc: Global, hub: &Hub, at: usize) -> Result<Option<usize>, AllocError>
-    ensures { IfOk result (λ item. MatchOption item
+fn spot_of_byte(alloc: Global, hub: &Hub, at: usize) -> Result<Option<Spot>, AllocError>
+    ensures { IfOk result (λ spot. MatchOption spot
         (length hub.now.course.output ≤ at)
-        (IsPrintedBy (text_of hub.now.course.program) hub.now.course.items at)) }
+        (IsSpotOfByte (text_of hub.now.course.program) hub.now.course.items at)) }
 {
     let mut second = begin_again(alloc, hub)?;
-    let item = item_in(alloc, hub, &mut second, at);
+    let spot = spot_in(alloc, hub, &mut second, at);
     let_go(second);
-    item
-}
-
-// The thread whose turn the item of this number is, if it is one.
-fn thread_of(items: &[Item], number: usize) -> Option<Tid>
-    ensures { MatchOption result ((t : ℕ) → IsTurnOf items.now number t → ⊥) (λ thread. IsTurnOf items.now number thread.0) }
-{
-    let place = number.checked_sub(1)?;
-    match items.get(place) {
-        Some(Item::Turn(thread)) => Some(*thread),
-        _ => None,
-    }
+    spot
 }
 
 /// Where the line of this number was printed in the run of the hub, which is made once more; nowhere, if it has not so many lines.
@@ -93,16 +102,10 @@ fn thread_of(items: &[Item], number: usize) -> Option<Tid>
 /// # Errors
 /// Out of memory.
 pub(crate) fn spot_of(alloc: Global, hub: &Hub, number: usize) -> Result<Option<Spot>, AllocError>
-    ensures { IfOk result (IsSpotOf hub.now number) }
+    ensures { IfOk result (IsSpotOfLine hub.now number) }
 {
-    let Some(at) = start_of(hub.out().as_bytes(), number) else {
-        return Ok(None);
-    };
-    match item_of(alloc, hub, at)? {
-        Some(item) => match thread_of(hub.schedule(), item) {
-            Some(thread) => Ok(Some(Spot { item, thread })),
-            None => unreachable!(),
-        },
-        None => unreachable!(),
+    match start_of(hub.out().as_bytes(), number) {
+        Some(at) => spot_of_byte(alloc, hub, at),
+        None => Ok(None),
     }
 }

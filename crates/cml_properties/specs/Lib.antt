@@ -1,4 +1,5 @@
 pub mod Kinds
+pub mod Faults
 pub mod Lines
 pub mod Codes
 pub mod Patterns
