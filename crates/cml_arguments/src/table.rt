@@ -296,9 +296,12 @@ fn holding<'a>(alloc: Global, command: Made<'a>) -> Made<'a>
     let more = option(alloc, "properties", "FILE").help(
         "Reads more of what must hold from a file, one on a line: never P",
     );
-    let command = with_arg(with_arg(command, never), always);
-    let command = with_arg(with_arg(command, once), before);
-    with_arg(with_arg(command, empty), more)
+    let command = with_arg(command, never);
+    let command = with_arg(command, always);
+    let command = with_arg(command, once);
+    let command = with_arg(command, before);
+    let command = with_arg(command, empty);
+    with_arg(command, more)
 }
 
 // The command, which says too to stop where that does not hold.

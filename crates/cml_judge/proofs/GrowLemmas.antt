@@ -10,6 +10,7 @@ use Rattle.cml_schedule.specs.declared.item.Item.{Item}
 use Rattle.cml_schedule.specs.declared.item.Item.TheVariants.{Turn, Meet as Commit, Exchange, Clock}
 use Rattle.cml_step.specs.Asks as ask
 use Rattle.cml_step.specs.Asks.{PlainAsk}
+use Rattle.cml_step.specs.Faults.{fault_name}
 use Rattle.cml_step.specs.Slices.{sliced}
 use Rattle.cml_step.specs.Terms.{Program, Term}
 use Rattle.cml_book.specs.Outcomes.{Outcome}
@@ -25,7 +26,7 @@ use Rattle.cml_book.specs.Multicast.{multicast}
 use Rattle.cml_book.specs.Nack.{nack}
 use Rattle.cml_book.specs.Sync.{sync}
 use Rattle.cml_book.specs.End.{end as end_thread}
-use Rattle.cml_hub.specs.Performed.{PlainDone, done, or_fails, asked, performed}
+use Rattle.cml_hub.specs.Performed.{PlainDone, done, spoken, or_fails, asked, performed}
 use Rattle.cml_hub.specs.Runs.{Run, opening, output_of, turned_by, turned, is_allowed, met, ticked, advance, after_item, stands_from, stands}
 use Rattle.cml_judge.proofs.LineLemmas.{AreLines, are_lines_both}
 
@@ -57,7 +58,7 @@ prints_done so t (Err why) each = tt
 prints_asked : (w : PlainWorld) (t : ℕ) (a : PlainAsk) → PrintsLines t (asked w t a)
 prints_asked w t ask.nothing = inl refl
 prints_asked w t ask.yield = inl refl
-prints_asked w t (ask.print v) = inr (_, refl)
+prints_asked w t (ask.print v) = inr (spoken v, refl)
 prints_asked w t ask.now = inl refl
 prints_asked w t (ask.spawn f) = prints_done _ t (spawn w) (λ x. inl refl)
 prints_asked w t ask.make_chan = prints_done _ t (make_chan w) (λ x. inl refl)
@@ -75,7 +76,7 @@ prints_asked w t (ask.multicast x v) = prints_done _ t (multicast w x v) (λ y. 
 prints_asked w t ask.fresh_nack = prints_done _ t (nack w t) (λ x. inl refl)
 prints_asked w t (ask.sync g) = prints_done _ t (sync w t g) (λ x. inl refl)
 prints_asked w t ask.end = prints_done _ t (end_thread w t) (λ x. inl refl)
-prints_asked w t (ask.fault why) = prints_done _ t (end_thread w t) (λ x. inr (_, refl))
+prints_asked w t (ask.fault why) = prints_done _ t (end_thread w t) (λ x. inr (codes "thread" ++ spaced t ++ codes " fault " ++ fault_name why, refl))
 
 prints_or_fails : (w : PlainWorld) (t : ℕ) (o : Outcome PlainDone) → PrintsLines t o → AreLines (output_of t (or_fails w t o).1)
 prints_or_fails w t (Ok next) are = are

@@ -93,7 +93,7 @@ start_less (l ∷ ls) (suc m) (suc n) h there = omega (arith, start_less ls m n 
 
 same_tests : (a b c d : ℕ) → (a < b → c < d) → (b ≤ a → d ≤ c) → nat_lt a b ≡ nat_lt c d
 same_tests a b c d less more =
-    elim (cases_lt a b) [ | inl lt ↦ lt-ltb a b lt ∙ sym (lt-ltb c d (less lt)) | inr le ↦ le-ltb a b le ∙ sym (le-ltb c d (more le)) ]
+    elim (cases_lt a b) [ inl lt ↦ lt-ltb a b lt ∙ sym (lt-ltb c d (less lt)) | inr le ↦ le-ltb a b le ∙ sym (le-ltb c d (more le)) ]
 
 -- A line is among the first ones exactly if its first byte is.
 pub within_by_byte : (text begin more : List ℕ) (n : ℕ) → text ≡ begin ++ more → AreLines begin → n < length (lines text) →

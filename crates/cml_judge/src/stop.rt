@@ -39,11 +39,7 @@ fn earliest(lines: &[Option<usize>]) -> Option<usize>
 }
 
 // The byte of the hub's output at which the first line begins that breaks a property, however the run goes on.
-fn broken_at(
-    alloc: Global,
-    properties: &[Property],
-    hub: &Hub,
-) -> Result<Option<usize>, AllocError>
+fn broken_at(alloc: Global, properties: &[Property], hub: &Hub) -> Result<Option<usize>, AllocError>
     ensures { IfOk result (TellsBreaks properties.now (text_of hub.now.course.program) hub.now.course.items) }
 {
     // No effect: named here so that the prover knows what holds of it.
