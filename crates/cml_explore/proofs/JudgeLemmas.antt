@@ -351,7 +351,8 @@ module _ (servers : List ℕ) (one other : Kept) (f g : ℕ → Option PlainFall
   abbrev second_end : End
   second_end = ending other.budget (run_of other.course)
 
-  fates_alike : alike (end_detail first_end ∷ (left ++ detail.Faults (faults_of one) ∷ break_details 0 j)) (end_detail second_end ∷ (right ++ detail.Faults (faults_of other) ∷ break_details 0 k)) ≡ true
+  fates_alike : alike (end_detail first_end ∷ (left ++ detail.Faults (faults_of one) ∷ break_details 0 j))
+      (end_detail second_end ∷ (right ++ detail.Faults (faults_of other) ∷ break_details 0 k)) ≡ true
       → is_good (fate_of servers one (are_all_kept j)) ≡ is_good (fate_of servers other (are_all_kept k))
   fates_alike whole =
       let parts =

@@ -1,5 +1,6 @@
 -- Runs that were closed, and what a schedule led to.
-use Rattle.std.proofs.Common.{◌≡◌, ◌∙◌, ◌&&◌, ◌||◌, ◌++◌, ◌∷◌, not, if◌then◌else◌, ℕ, Bool, true, false, List, [], length, Option, Some, None, Vec, is_some, map, Result, Ok, Err, IfOk, IfErr, OnOk, ap, inl, inr, refl, subst, sym, arith}
+use Rattle.std.proofs.Common.{◌≡◌, ◌∙◌, ◌&&◌, ◌||◌, ◌++◌, ◌∷◌, not, if◌then◌else◌, ℕ, Bool, true, false, List, [], length, Option, Some, None, Vec, is_some, map}
+use Rattle.std.proofs.Common.{Result, Ok, Err, IfOk, IfErr, OnOk, ap, inl, inr, refl, subst, sym, arith}
 use Rattle.std.specs.Prelude.{◌==◌}
 use Rattle.std.proofs.lemmas.Bool.Decides.{nat_tests}
 use Rattle.std.specs.declared.alloc.Global.{Global}

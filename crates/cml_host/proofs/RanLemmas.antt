@@ -24,7 +24,8 @@ use Rattle.cml_host.specs.declared.workers.Cause.TheVariants as cause
 use Rattle.cml_host.specs.declared.workers.Stopped.{Stopped}
 use Rattle.cml_host.specs.Closed.{PlainAsked}
 use Rattle.cml_host.specs.Replies.{IsCarriedOut, Moment, Passage, PlainReply, Replies, behind, plain_of, plain_refusal, plain_reply, runs_out, since, upto}
-use Rattle.cml_host.specs.Running.{AreToldBy, BegunOutcome, EndsTold, HasEnded, IsChosen, IsEnded, IsEndReply, IsRunBy, IsRunReply, IsStopped, IsTold, MemoryRanOut, PlainSaving, Plays, PlaysChosen, ProgramOutcome}
+use Rattle.cml_host.specs.Running.{AreToldBy, BegunOutcome, EndsTold, HasEnded, IsChosen, IsEnded, IsEndReply, IsRunBy, IsRunReply, IsStopped, IsTold}
+use Rattle.cml_host.specs.Running.{MemoryRanOut, PlainSaving, Plays, PlaysChosen, ProgramOutcome}
 use Rattle.cml_host.specs.Running.{RunsSo, ScriptOutcome, SomehowOutcome, failed_by, run_asked, saving_of, stop_reply}
 use Rattle.cml_host.specs.Orders.{order_said}
 use Rattle.cml_explore.specs.declared.seed.order.Order.{Order}
@@ -62,7 +63,8 @@ chosen_from p budget (Some seed) watch begun h begins leads plays = played_from 
 -- ---- where a run is told
 
 -- as far as this other hub has gone, which stands where its own run leads
-pub told_there : (asked : PlainAsked) (saving : PlainSaving) (h other : Kept) (reply : PlainReply) → IsToldUpTo asked.stops asked.properties (text_of h.course.program) h.course.items other.course.items
+pub told_there : (asked : PlainAsked) (saving : PlainSaving) (h other : Kept) (reply : PlainReply)
+    → IsToldUpTo asked.stops asked.properties (text_of h.course.program) h.course.items other.course.items
     → other.course.program ≡ h.course.program → other.budget ≡ h.budget → stands (text_of other.course.program) other.course.items ≡ Some (run_of other.course)
     → IsEnded asked saving other reply ⊎ (reply ≡ runs_out other.course.output) → IsTold asked saving h reply
 told_there asked saving h other reply upto_there program budget leads (inl ended) =
@@ -174,8 +176,8 @@ stopped_ran asked saving p options begun stopped output errors mid store status 
     so cause.Foreign told failed = inr (inr (inr (told.0, (told.1.0, told.1.1, told.1.2, (told.1.3, failed)), refl)))
 
 -- the script was run, with the numbers of its servers
-pub opened_ran : (explains : Bool) (s : PlainScript) (properties : List Property) (options : RunOptions) (servers : List ℕ) (asked : PlainAsked) (saving : PlainSaving) (p : List (PlainItem ℕ)) (output errors : Passage)
-    (store : Shelf) (status : ℕ) → first_unknown s (server_names options.end) ≡ None → servers ≡ server_numbers s (server_names options.end) → p ≡ s.program →
+pub opened_ran : (explains : Bool) (s : PlainScript) (properties : List Property) (options : RunOptions) (servers : List ℕ) (asked : PlainAsked) (saving : PlainSaving)
+    (p : List (PlainItem ℕ)) (output errors : Passage) (store : Shelf) (status : ℕ) → first_unknown s (server_names options.end) ≡ None → servers ≡ server_numbers s (server_names options.end) → p ≡ s.program →
     asked ≡ record { explains = explains; strict = options.end.strict; servers = servers; properties = properties; stops = options.stop } → saving ≡ saving_of options →
     SomehowOutcome asked saving p options output errors store status → ScriptOutcome explains s properties options output errors store status
 opened_ran explains s properties options servers asked saving p output errors store status known numbered program same saves (inl ran) =

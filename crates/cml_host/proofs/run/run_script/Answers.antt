@@ -1,5 +1,5 @@
 use Rattle.std.proofs.Common.{◌≡◌, ◌∙◌, Bor, List, ℕ, None, ap, inr, is_some, map, refl, subst}
-use Rattle.cml_host.specs.Closed.{plain_asked}
+use Rattle.cml_host.specs.Closed.{is_asked, plain_asked}
 use Rattle.cml_host.specs.Refused.{RefusesAs}
 use Rattle.cml_host.specs.Replies.{passage}
 use Rattle.cml_host.specs.Running.{plain_saving}
@@ -23,7 +23,7 @@ returns-in-Ok-clause-ran g c =
     (c.in-Ok.ensures.found ∙ ap (λ (ns : List (Bor (List ℕ))). server_numbers s (map (λ name. name.now) ns)) c.as_slice.ensures.value)
     c.ask-program.ensures.program c.ask-program.ensures.asked
     (c.saving_for-saving.ensures
-    ∙ saving_asked c.args.options.now c.args.explains c.is_some-draws.result (is_some c.ask-program.result.1.subject) c.is_some-draws.ensures c.ask-program.ensures.kept)
+    ∙ saving_asked c.args.options.now c.args.explains c.is_some-draws.result (is_asked c.args.wanted.items) (is_some c.ask-program.result.1.subject) c.is_some-draws.ensures c.ask-program.ensures.kept)
     c.run_so.ensures.ran
 
 pub returns-in-Err-clause-ran : goal.returns-in-Err-clause-ran
