@@ -95,9 +95,9 @@ not_so false none = refl
 -- so many lines of a run break a property exactly if the line is among them at which it breaks
 broken_within : (property : Property) (printed : List PlainLine) (finish : Finish) (n line : ℕ) → finish ≡ GoesOn → BreaksAt property printed finish line →
     keeps property (take n printed) GoesOn ≡ not (nat_lt line n)
-broken_within property printed finish n line open b =
+broken_within property printed finish n line going b =
     let broken : keeps property (take (line + 1) printed) GoesOn ≡ false =
-    ap (λ f. keeps property (take (line + 1) printed) f) (sym (same_either (line == length printed) finish open)) ∙ b.broken in
+    ap (λ f. keeps property (take (line + 1) printed) f) (sym (same_either (line == length printed) finish going)) ∙ b.broken in
     elim (cases_lt line n) [
       | inl lt ↦
           not_so (keeps property (take n printed) GoesOn)
@@ -108,9 +108,9 @@ broken_within property printed finish n line open b =
 
 kept_within : (property : Property) (printed : List PlainLine) (finish : Finish) (n : ℕ) → finish ≡ GoesOn → keeps property printed finish ≡ true →
     keeps property (take n printed) GoesOn ≡ true
-kept_within property printed finish n open kept =
+kept_within property printed finish n going kept =
     kept_front property (take n printed) (drop n printed)
-    (ap (λ xs. keeps property xs GoesOn) (take-append-drop n printed) ∙ ap (λ f. keeps property printed f) (sym open) ∙ kept)
+    (ap (λ xs. keeps property xs GoesOn) (take-append-drop n printed) ∙ ap (λ f. keeps property printed f) (sym going) ∙ kept)
 
 -- An output that goes on behind whole lines, and the run that printed it.
 pub record GoesOnBehind (text begin : List ℕ) (run : Run) : Type 0 where
@@ -118,7 +118,7 @@ pub record GoesOnBehind (text begin : List ℕ) (run : Run) : Type 0 where
   pub split : text ≡ begin ++ more
   pub whole : AreLines begin
   pub output : run.output.now ≡ text
-  pub open_ : run.finish ≡ GoesOn
+  pub going : run.finish ≡ GoesOn
 
 lines_split : (text begin : List ℕ) (run : Run) (g : GoesOnBehind text begin run) → lines run.output.now ≡ lines begin ++ lines g.more
 lines_split text begin run g = ap lines (g.output ∙ g.split) ∙ lines_of_both begin g.more g.whole
@@ -133,11 +133,11 @@ tells_one : SpellsOneAtMost → (text begin : List ℕ) (run : Run) → GoesOnBe
 tells_one once text begin run g property None printed k are =
     let same : printed ≡ take (length (lines begin)) k.printed =
     same_lines_of once (lines begin) printed (take (length (lines begin)) k.printed) are (begin_lines text begin run g k.printed k.are) in
-    ap (λ ps. keeps property ps GoesOn) same ∙ kept_within property k.printed run.finish (length (lines begin)) g.open_ k.kept
+    ap (λ ps. keeps property ps GoesOn) same ∙ kept_within property k.printed run.finish (length (lines begin)) g.going k.kept
 tells_one once text begin run g property (Some line) printed (inl b) are =
     let same : printed ≡ take (length (lines begin)) b.printed =
     same_lines_of once (lines begin) printed (take (length (lines begin)) b.printed) are (begin_lines text begin run g b.printed b.are) in
-    ap (λ ps. keeps property ps GoesOn) same ∙ broken_within property b.printed run.finish (length (lines begin)) line g.open_ b.broken
+    ap (λ ps. keeps property ps GoesOn) same ∙ broken_within property b.printed run.finish (length (lines begin)) line g.going b.broken
 tells_one once text begin run g property (Some line) printed (inr apart) are =
     absurd (apart.0 (subst (λ (ls : List (List ℕ)). Agree property (lines text) ls) (ap lines (sym g.output)) (agree_self property (lines text))))
 
@@ -224,8 +224,7 @@ by_byte text begin more (Some line) (Some byte) there split whole =
 pub tells_begin : SpellsOneAtMost → (text begin : List ℕ) (run : Run) → GoesOnBehind text begin run → (properties : List Property) (judged : List (Option ℕ)) (at : Option ℕ) →
     AreJudged (lines text) run properties judged → StartsSo text (earliest judged) at → BreaksOne properties begin ↔ IsTrue (is_within at (length begin))
 tells_begin once text begin run g properties judged at so starts =
-    let same = by_byte text begin g.more (earliest judged) at starts g.split g.whole in
-    (
+    let same = by_byte text begin g.more (earliest judged) at starts g.split g.whole in (
       λ broken. sym same ∙ past_if_broken once text begin run g properties judged so broken.0 broken.1.0 broken.1.1 broken.1.2 broken.2.0 broken.2.1 broken.2.2,
-      λ past. broken_if_past once text begin run g properties judged so (same ∙ past)
+      λ past. broken_if_past once text begin run g properties judged so (same ∙ past),
     )
