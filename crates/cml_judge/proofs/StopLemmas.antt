@@ -50,7 +50,7 @@ earlier_all ls i first whole past so_far = earlier_none first ∙ (ap (λ xs. ea
 pub tells_breaks : SpellsOneAtMost → (properties : List Property) (h : Kept) (text : List ℕ) (run : Printed) (judged : List (Option ℕ)) (at : Option ℕ) →
     stands (text_of h.course.program) h.course.items ≡ Some (run_of h.course) → text ≡ h.course.output → run.output.now ≡ text → run.finish ≡ GoesOn →
     AreJudged (lines text) run properties judged → StartsSo text (earliest judged) at → TellsBreaks properties (text_of h.course.program) h.course.items at
-tells_breaks once properties h text run judged at leads same output open_ so starts = λ k r so_far.
+tells_breaks once properties h text run judged at leads same output going so starts = λ k r so_far.
     let p = text_of h.course.program in
     let grows = begins_so p h.course.items k r (run_of h.course) leads so_far in
     let behind : GoesOnBehind text r.output run = record {
@@ -58,7 +58,7 @@ tells_breaks once properties h text run judged at leads same output open_ so sta
       split = same ∙ grows.grown;
       whole = prints_whole_lines p (take k h.course.items) r so_far;
       output = output;
-      open_ = open_;
+      going = going;
     } in
     tells_begin once text r.output run behind properties judged at so starts
 
