@@ -31,6 +31,13 @@ two_added r q s = ap (λ (list : List Rule). record s { rules = list }) (append_
 pub three_added : (r q o : Rule) (s : Shape) → with_rule o (with_rule q (with_rule r s)) ≡ record s { rules = s.rules ++ r ∷ q ∷ o ∷ [] }
 three_added r q o s = ap (with_rule o) (two_added r q s) ∙ ap (λ (list : List Rule). record s { rules = list }) (append_assoc s.rules (r ∷ q ∷ []) (o ∷ []))
 
+pub six_added : (r q o x y z : Rule) (s : Shape) →
+    with_rule z (with_rule y (with_rule x (with_rule o (with_rule q (with_rule r s))))) ≡ record s { rules = s.rules ++ r ∷ q ∷ o ∷ x ∷ y ∷ z ∷ [] }
+six_added r q o x y z s =
+    ap (λ (t : Shape). with_rule z (with_rule y (with_rule x t))) (three_added r q o s)
+    ∙ (three_added x y z (record s { rules = s.rules ++ r ∷ q ∷ o ∷ [] })
+    ∙ ap (λ (list : List Rule). record s { rules = list }) (append_assoc s.rules (r ∷ q ∷ o ∷ []) (x ∷ y ∷ z ∷ [])))
+
 -- a command of this shape has any shape that is the same
 pub shaped : (E : Type 0) (s t : Shape) (r : Result Command E) → s ≡ t → IfOk r (IsShapedAs s) → IfOk r (IsShapedAs t)
 shaped E s t r same is = IfOk-weaker r _ _ (λ command was. record { shape = was.shape ∙ same; globals = was.globals }) is

@@ -20,7 +20,7 @@ use Rattle.clap.specs.declared.builder.value_parser.Reading.TheVariants.{AsWritt
 use Rattle.clap.specs.declared.builder.value_parser.ValueParser.TheVariants as vp
 use Rattle.clap.proofs.ValueTestLemmas.{Accepts-accepts, accepts-Accepts}
 use Rattle.clap.proofs.WalkLemmas.{both}
-use Rattle.cml_arguments.specs.Words.{any_rule, end_rules, explain_rules, file_rule, flag_rule, is_as_written, is_flagged, has_first_value, is_served, option_number, number_rule, AreServed}
+use Rattle.cml_arguments.specs.Words.{any_rule, explain_rules, file_rule, flag_rule, is_as_written, is_flagged, has_first_value, is_served, option_number, number_rule, AreServed}
 
 pub as_written : (how : Reading) → is_as_written how ≡ true → how ≡ AsWritten
 as_written AsWritten plain = refl
@@ -53,9 +53,9 @@ served_first given (a ∷ rest) last served =
     let parts = both (is_served given a) (list_all (is_served given) (rest ++ last)) served in
     ap₂ (λ x y. x && y) parts.0 (served_first given rest last parts.1)
 
--- and so are those by which a command is told how to end and to explain, which come after its own
-pub end_served : (given : List Row) (own : List Rule) → AreServed given (own ++ (end_rules ++ explain_rules)) → AreServed given end_rules
-end_served given own served = record { each = served_first given end_rules explain_rules (served_last given own (end_rules ++ explain_rules) served.each) }
+-- and so are those in the middle, and the last ones, by which a command is asked to explain
+pub mid_served : (given : List Row) (first mid last : List Rule) → AreServed given (first ++ (mid ++ last)) → AreServed given mid
+mid_served given first mid last served = record { each = served_first given mid last (served_last given first (mid ++ last) served.each) }
 
 pub explain_served : (given : List Row) (own : List Rule) → AreServed given (own ++ explain_rules) → AreServed given explain_rules
 explain_served given own served = record { each = served_last given own explain_rules served.each }

@@ -30,6 +30,7 @@ use Rattle.cml_arguments.specs.declared.EndOptions.{EndOptions}
 use Rattle.cml_arguments.specs.declared.ExploreOptions.{ExploreOptions}
 use Rattle.cml_arguments.specs.declared.FileOptions.{FileOptions}
 use Rattle.cml_arguments.specs.declared.PartOptions.{PartOptions}
+use Rattle.cml_arguments.specs.declared.PropertyOptions.{PropertyOptions}
 use Rattle.cml_arguments.specs.declared.ReplayOptions.{ReplayOptions}
 use Rattle.cml_arguments.specs.declared.RunOptions.{RunOptions}
 use Rattle.cml_arguments.specs.declared.ShrinkOptions.{ShrinkOptions}
@@ -95,6 +96,20 @@ explain_rules = flag_rule (codes "explain") ∷ flag_rule (codes "plain") ∷ []
 abbrev pub order_rules : List Rule
 order_rules = flag_rule (codes "turns") ∷ depth_rule (codes "priority") ∷ []
 
+-- the options by which a command is told what must hold of a run
+abbrev pub property_rules : List Rule
+property_rules =
+    list_rule (codes "never") ∷ list_rule (codes "always") ∷ list_rule (codes "once") ∷ list_rule (codes "before") ∷ flag_rule (codes "empty")
+    ∷ option_rule (codes "properties") ∷ []
+
+-- and to stop where that does not hold
+abbrev pub stop_rules : List Rule
+stop_rules = flag_rule (codes "stop") ∷ []
+
+-- the options by which a command is told that runs must print alike
+abbrev pub alike_rules : List Rule
+alike_rules = flag_rule (codes "same-lines") ∷ flag_rule (codes "same-order") ∷ []
+
 -- the options by which a command is told what to make of many runs
 abbrev pub finding_rules : List Rule
 finding_rules = option_rule (codes "save") ∷ list_rule (codes "servers") ∷ list_rule (codes "until") ∷ []
@@ -123,10 +138,11 @@ file_command name = command_of name (file_rule (codes "FILE") ∷ explain_rules)
 abbrev pub run_command : Shape
 run_command = command_of (codes "run")
     (file_rule (codes "FILE") ∷ workers_rule (codes "workers") ∷ count_rule (codes "steps") ∷ any_rule (codes "seed") ∷ count_rule (codes "watch")
-    ∷ option_rule (codes "record") ∷ option_rule (codes "draw") ∷ order_rules ++ (end_rules ++ explain_rules))
+    ∷ option_rule (codes "record") ∷ option_rule (codes "draw") ∷ order_rules ++ (end_rules ++ (property_rules ++ (stop_rules ++ explain_rules))))
 
 abbrev pub replay_command : Shape
-replay_command = command_of (codes "replay") (file_rule (codes "FILE") ∷ file_rule (codes "SCHEDULE") ∷ count_rule (codes "watch") ∷ end_rules ++ explain_rules)
+replay_command = command_of (codes "replay")
+    (file_rule (codes "FILE") ∷ file_rule (codes "SCHEDULE") ∷ count_rule (codes "watch") ∷ end_rules ++ (property_rules ++ (stop_rules ++ explain_rules)))
 
 -- a command that takes a part of a schedule
 abbrev pub part_command : Text → Shape
@@ -135,7 +151,7 @@ part_command name = command_of name (file_rule (codes "FILE") ∷ file_rule (cod
 abbrev pub explore_command : Shape
 explore_command = command_of (codes "explore")
     (file_rule (codes "FILE") ∷ runs_rule (codes "runs") ∷ any_rule (codes "seed") ∷ count_rule (codes "steps") ∷ workers_rule (codes "workers")
-    ∷ flag_rule (codes "picks") ∷ order_rules ++ finding_rules)
+    ∷ flag_rule (codes "picks") ∷ order_rules ++ (finding_rules ++ (property_rules ++ alike_rules)))
 
 abbrev pub verify_command : Shape
 verify_command =
@@ -144,7 +160,8 @@ verify_command =
     ∷ list_rule (codes "servers") ∷ [])
 
 abbrev pub shrink_command : Shape
-shrink_command = command_of (codes "shrink") (file_rule (codes "FILE") ∷ file_rule (codes "SCHEDULE") ∷ count_rule (codes "tries") ∷ [])
+shrink_command = command_of (codes "shrink")
+    (file_rule (codes "FILE") ∷ file_rule (codes "SCHEDULE") ∷ count_rule (codes "tries") ∷ property_rules ++ stop_rules)
 
 abbrev pub step_command : Shape
 step_command = command_of (codes "step") (file_rule (codes "FILE") ∷ option_rule (codes "record") ∷ [])
@@ -236,6 +253,15 @@ pub record IsEnd (given : List Row) (options : EndOptions) : Type 0 where
   pub strict : options.strict ≡ is_flagged (codes "strict") given
   pub servers : map (λ name. name.now) options.servers.items ≡ option_texts (codes "servers") given
 
+-- what must hold of a run is what was given, each option as often as it was
+pub record IsProperties (given : List Row) (options : PropertyOptions) : Type 0 where
+  pub never : map (λ text. text.now) options.never.items ≡ option_texts (codes "never") given
+  pub always : map (λ text. text.now) options.always.items ≡ option_texts (codes "always") given
+  pub once : map (λ text. text.now) options.once.items ≡ option_texts (codes "once") given
+  pub before : map (λ text. text.now) options.before.items ≡ option_texts (codes "before") given
+  pub empty : options.empty ≡ is_flagged (codes "empty") given
+  pub file : option_map (λ name. name.now) options.file ≡ first_of (codes "properties") given
+
 -- the options of `run` are what was given; where no number of workers was, one worker, and where no number of steps was, 1,000,000
 pub record IsRun (given : List Row) (options : RunOptions) : Type 0 where
   pub file : first_of (codes "FILE") given ≡ Some options.file.now
@@ -248,6 +274,8 @@ pub record IsRun (given : List Row) (options : RunOptions) : Type 0 where
   pub record_file : option_map (λ name. name.now) options.record ≡ first_of (codes "record") given
   pub draw_file : option_map (λ name. name.now) options.draw ≡ first_of (codes "draw") given
   pub end : IsEnd given options.end
+  pub properties : IsProperties given options.properties
+  pub stop : options.stop ≡ is_flagged (codes "stop") given
   pub explain : options.explain ≡ explanation given
   pub counts : IsWorkers options.workers × IsCount options.steps × IfSome options.watch IsCount × IfSome options.priority IsDepth
 
@@ -257,6 +285,8 @@ pub record IsReplay (given : List Row) (options : ReplayOptions) : Type 0 where
   pub schedule : first_of (codes "SCHEDULE") given ≡ Some options.schedule.now
   pub watch : options.watch ≡ option_number (codes "watch") given
   pub end : IsEnd given options.end
+  pub properties : IsProperties given options.properties
+  pub stop : options.stop ≡ is_flagged (codes "stop") given
   pub explain : options.explain ≡ explanation given
   pub counts : IfSome options.watch IsCount
 
@@ -281,6 +311,9 @@ pub record IsExplore (given : List Row) (options : ExploreOptions) : Type 0 wher
   pub save : option_map (λ start. start.now) options.save ≡ first_of (codes "save") given
   pub servers : map (λ name. name.now) options.servers.items ≡ option_texts (codes "servers") given
   pub until : map (λ word. word.now) options.until.items ≡ option_texts (codes "until") given
+  pub properties : IsProperties given options.properties
+  pub same_lines : options.same_lines ≡ is_flagged (codes "same-lines") given
+  pub same_order : options.same_order ≡ is_flagged (codes "same-order") given
   pub counts : IsRuns options.runs × IsCount options.steps × IfSome options.workers IsWorkers × IfSome options.priority IsDepth
 
 -- and those of `verify`; where no number of states was, 20,000
@@ -298,6 +331,8 @@ pub record IsShrink (given : List Row) (options : ShrinkOptions) : Type 0 where
   pub script : first_of (codes "FILE") given ≡ Some options.script.now
   pub schedule : first_of (codes "SCHEDULE") given ≡ Some options.schedule.now
   pub tries : options.tries ≡ unwrap_or (option_number (codes "tries") given) 10000
+  pub properties : IsProperties given options.properties
+  pub stop : options.stop ≡ is_flagged (codes "stop") given
   pub counts : IsCount options.tries
 
 -- and those of `step`
@@ -364,8 +399,15 @@ is_ordered options = options.turns || is_some options.priority
 abbrev pub order_word : Bool → Text
 order_word turns = if turns then codes "--turns" else codes "--priority"
 
+-- a run is to stop where a property breaks, and more workers than one are asked for, or reports
+abbrev pub StopWatchOdds : Bool → Option ℕ → List ℕ → Type 0
+StopWatchOdds stop watch = Clash (codes "--stop") stop (codes "--watch") (is_some watch)
+
+abbrev pub StopOdds : RunOptions → List ℕ → Type 0
+StopOdds options = OrElse (Clash (codes "--stop") options.stop (codes "--workers") (nat_lt 1 options.workers)) (StopWatchOdds options.stop options.watch)
+
 abbrev pub WatchOdds : RunOptions → List ℕ → Type 0
-WatchOdds options = Clash (order_word options.turns) (is_ordered options) (codes "--watch") (is_some options.watch)
+WatchOdds options = OrElse (Clash (order_word options.turns) (is_ordered options) (codes "--watch") (is_some options.watch)) (StopOdds options)
 
 abbrev pub WorkersOdds : RunOptions → List ℕ → Type 0
 WorkersOdds options = OrElse (Clash (order_word options.turns) (is_ordered options) (codes "--workers") (nat_lt 1 options.workers)) (WatchOdds options)
@@ -457,7 +499,7 @@ InputOdds script schedule told = (script ≡ codes "-") × (schedule ≡ codes "
 abbrev pub AreAtOdds : Task → List ℕ → Type 0
 AreAtOdds (task_of.Trace options) told = TraceOdds options told
 AreAtOdds (task_of.Run options) told = RunOdds options told
-AreAtOdds (task_of.Replay options) told = InputOdds options.script.now options.schedule.now told
+AreAtOdds (task_of.Replay options) told = OrElse (StopWatchOdds options.stop options.watch) (InputOdds options.script.now options.schedule.now) told
 AreAtOdds (task_of.Explain options) told = InputOdds options.script.now options.schedule.now told
 AreAtOdds (task_of.Explore options) told = ExploreOdds options told
 AreAtOdds (task_of.Verify options) told = VerifyOdds options told
@@ -493,6 +535,18 @@ with_explain command = record command { rules = command.rules ++ explain_rules }
 -- the command, which says too which threads may be left at the end
 abbrev pub with_end : Shape → Shape
 with_end command = record command { rules = command.rules ++ end_rules }
+
+-- the command, which says too what must hold of a run
+abbrev pub with_properties : Shape → Shape
+with_properties command = record command { rules = command.rules ++ property_rules }
+
+-- and to stop where that does not hold
+abbrev pub with_stop : Shape → Shape
+with_stop command = record command { rules = command.rules ++ stop_rules }
+
+-- and that runs must print alike
+abbrev pub with_alike : Shape → Shape
+with_alike command = record command { rules = command.rules ++ alike_rules }
 
 -- the program, with the commands that make a run again and again, or by hand
 abbrev pub with_others : App → App

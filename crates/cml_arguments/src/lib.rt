@@ -94,6 +94,23 @@ pub struct EndOptions<'a> {
     pub servers: Vec<&'a str>,
 }
 
+/// What must hold of a run.
+#[derive(Drop)]
+pub struct PropertyOptions<'a> {
+    /// The patterns that no line may match.
+    pub never: Vec<&'a str>,
+    /// Those of which a line must match each, once the run has ended.
+    pub always: Vec<&'a str>,
+    /// Those of which one line at most may match each.
+    pub once: Vec<&'a str>,
+    /// Two patterns in each text: no line that matches the second may come before the first that matches the first.
+    pub before: Vec<&'a str>,
+    /// Whether no item may be left in a mailbox or at a port once the run has ended.
+    pub empty: bool,
+    /// The file that has more of it.
+    pub file: Option<&'a str>,
+}
+
 /// How a script is run.
 #[derive(Drop)]
 pub struct RunOptions<'a> {
@@ -117,6 +134,10 @@ pub struct RunOptions<'a> {
     pub draw: Option<&'a str>,
     /// Which threads may be left at its end.
     pub end: EndOptions<'a>,
+    /// What must hold of it.
+    pub properties: PropertyOptions<'a>,
+    /// Whether it stops where that does not hold, or where a thread ends at a fault.
+    pub stop: bool,
     /// Whether what is wrong with the script is explained.
     pub explain: Explain,
 }
@@ -132,6 +153,10 @@ pub struct ReplayOptions<'a> {
     pub watch: Option<u64>,
     /// Which threads may be left at its end.
     pub end: EndOptions<'a>,
+    /// What must hold of it.
+    pub properties: PropertyOptions<'a>,
+    /// Whether it stops where that does not hold, or where a thread ends at a fault.
+    pub stop: bool,
     /// Whether what is wrong with the script is explained.
     pub explain: Explain,
 }
@@ -174,6 +199,12 @@ pub struct ExploreOptions<'a> {
     pub servers: Vec<&'a str>,
     /// The words that say at which runs to stop; without one all are made.
     pub until: Vec<&'a str>,
+    /// What must hold of each run.
+    pub properties: PropertyOptions<'a>,
+    /// Whether all runs must print the same lines, in any order.
+    pub same_lines: bool,
+    /// Whether they must print the same lines in the same order.
+    pub same_order: bool,
 }
 
 /// At which run to stop.
@@ -225,7 +256,7 @@ pub struct VerifyOptions<'a> {
 }
 
 /// How a shorter schedule is looked for.
-#[derive(Clone, Copy, PartialEq, Eq)]
+#[derive(Drop)]
 pub struct ShrinkOptions<'a> {
     /// The file of the script.
     pub script: &'a str,
@@ -233,6 +264,10 @@ pub struct ShrinkOptions<'a> {
     pub schedule: &'a str,
     /// How many replays the search may take, from 1 to 1,000,000,000; where the arguments give no number, 10,000.
     pub tries: u64,
+    /// What must hold of a run: the shorter schedule breaks of it what the given one breaks.
+    pub properties: PropertyOptions<'a>,
+    /// Whether the schedule is to end where the run breaks something of it, or a thread ends at a fault.
+    pub stop: bool,
 }
 
 /// How a script is run by hand.

@@ -2,11 +2,12 @@
 
 ghost use Rattle.std.specs.{Prelude.{◌≡◌, ◌↔◌, ◌<◌, ◌-◌, codes, false, true, is_some, option_map, IfOk, IsTrue, List, MatchOption, Some, ℕ}, Char.{is_ascii_digit}};
 ghost use Rattle.std.specs.{List.{list_all, list_any}, String.{string_bytes}};
-ghost use Rattle.cml_arguments.specs.Words.{saved_end, saved_name, start_of, AreOdds, Clash, DepthOdds, DrawnOdds, ExplainsLive, ExploreOdds, InputOdds, KindsOdds, LastOdds, OrderOdds, OverOdds, OverRecord, PassesTheLast, PicksOdds, ReplacedOdds, Replaces, RunOdds, SaveOdds, SavedOdds, SavesOver, SeedsOdds, StepOdds, ToldOdds, TraceOdds, TurnsOdds, UntilOdds, VerifyOdds, WatchOdds, WorkersOdds};
+ghost use Rattle.cml_arguments.specs.Words.{saved_end, saved_name, start_of, AreOdds, Clash, DepthOdds, DrawnOdds, ExplainsLive, ExploreOdds, InputOdds, KindsOdds, LastOdds, OrderOdds, OverOdds, OrElse, OverRecord, PassesTheLast, PicksOdds, ReplacedOdds, Replaces, RunOdds, SaveOdds, SavedOdds, SavesOver, SeedsOdds, StepOdds, ToldOdds, TraceOdds, TurnsOdds, UntilOdds, VerifyOdds, WatchOdds, WorkersOdds, StopOdds, StopWatchOdds};
 ghost use Rattle.cml_arguments.specs.Words as spec;
 
 use crate::{
-    Explain, ExploreOptions, RunOptions, StepOptions, Task, TraceOptions, Until, VerifyOptions,
+    Explain, ExploreOptions, ReplayOptions, RunOptions, StepOptions, Task, TraceOptions, Until,
+    VerifyOptions,
 };
 use std::alloc::{AllocError, Global};
 
@@ -20,7 +21,7 @@ pub fn told_odds(alloc: Global, task: &Task<'_>) -> Result<Option<String>, Alloc
     match task {
         Task::Trace(options) => trace_odds(alloc, *options),
         Task::Run(options) => run_odds(alloc, options),
-        Task::Replay(options) => input_odds(alloc, options.script, options.schedule),
+        Task::Replay(options) => replay_odds(alloc, options),
         Task::Explain(options) => input_odds(alloc, options.script, options.schedule),
         Task::Explore(options) => explore_odds(alloc, options),
         Task::Verify(options) => verify_odds(alloc, options),
@@ -111,7 +112,42 @@ fn watch_odds(alloc: Global, options: &RunOptions<'_>) -> Result<Option<String>,
 {
     let order = order_word(options.turns);
     let watch = options.watch.is_some();
-    clash(alloc, order, is_ordered(options), "--watch", watch)
+    match clash(alloc, order, is_ordered(options), "--watch", watch)? {
+        Some(told) => Ok(Some(told)),
+        None => stop_odds(alloc, options),
+    }
+}
+
+// And of its workers, where it is to stop.
+fn stop_odds(alloc: Global, options: &RunOptions<'_>) -> Result<Option<String>, AllocError>
+    ensures { IfOk result (λ told. ToldOdds (StopOdds options.now) (option_map (λ text. string_bytes text) told)) }
+{
+    let several = 1 < options.workers;
+    match clash(alloc, "--stop", options.stop, "--workers", several)? {
+        Some(told) => Ok(Some(told)),
+        None => stop_watch_odds(alloc, options.stop, options.watch),
+    }
+}
+
+// And of the reports of a run that is to stop.
+fn stop_watch_odds(
+    alloc: Global,
+    stop: bool,
+    watch: Option<u64>,
+) -> Result<Option<String>, AllocError>
+    ensures { IfOk result (λ told. ToldOdds (StopWatchOdds stop watch) (option_map (λ text. string_bytes text) told)) }
+{
+    clash(alloc, "--stop", stop, "--watch", watch.is_some())
+}
+
+// What is said of the options of `replay`.
+fn replay_odds(alloc: Global, options: &ReplayOptions<'_>) -> Result<Option<String>, AllocError>
+    ensures { IfOk result (λ told. ToldOdds (OrElse (StopWatchOdds options.now.stop options.now.watch) (InputOdds options.now.script.now options.now.schedule.now)) (option_map (λ text. string_bytes text) told)) }
+{
+    match stop_watch_odds(alloc, options.stop, options.watch)? {
+        Some(told) => Ok(Some(told)),
+        None => input_odds(alloc, options.script, options.schedule),
+    }
 }
 
 // Whether the order of the turns of a run is said.

@@ -3,11 +3,11 @@
 
 ghost use Rattle.std.specs.Prelude.{◌≡◌, ◌<◌, ◌-◌, [], true, is_some, map, IfOk, IsSomeAnd, Some};
 ghost use Rattle.clap.specs.Words.{first_of, found_of, rows_of, subcommand_rows_of};
-ghost use Rattle.cml_arguments.specs.Words.{any_rule, commands, end_rules, explain_rules, explanation, explore_command, file_command, flag_rule, is_complete, is_flagged, is_served, option_number, option_texts, part_command, replay_command, run_command, shrink_command, step_command, trace_command, verify_command, AreServed, IsEnd, IsExplore, IsFile, IsPart, IsReplay, IsRun, IsShrink, IsStepping, IsTrace, IsVerify, Names};
+ghost use Rattle.cml_arguments.specs.Words.{any_rule, commands, end_rules, explain_rules, explanation, explore_command, file_command, flag_rule, is_complete, is_flagged, is_served, option_number, option_texts, part_command, property_rules, replay_command, run_command, shrink_command, step_command, trace_command, verify_command, AreServed, IsEnd, IsExplore, IsFile, IsPart, IsProperties, IsReplay, IsRun, IsShrink, IsStepping, IsTrace, IsVerify, Names};
 
 use crate::{
-    EndOptions, Explain, ExploreOptions, FileOptions, PartOptions, ReplayOptions, RunOptions,
-    ShrinkOptions, StepOptions, Task, TraceOptions, VerifyOptions,
+    EndOptions, Explain, ExploreOptions, FileOptions, PartOptions, PropertyOptions, ReplayOptions,
+    RunOptions, ShrinkOptions, StepOptions, Task, TraceOptions, VerifyOptions,
 };
 use clap::ArgMatches;
 use std::alloc::{AllocError, Global};
@@ -47,7 +47,7 @@ pub fn task_of<'a>(alloc: Global, matches: &ArgMatches<'a>) -> Result<Task<'a>, 
         "explain" => Ok(Task::Explain(part_options(below))),
         "explore" => Ok(Task::Explore(explore_options(alloc, below)?)),
         "verify" => Ok(Task::Verify(verify_options(alloc, below)?)),
-        "shrink" => Ok(Task::Shrink(shrink_options(below))),
+        "shrink" => Ok(Task::Shrink(shrink_options(alloc, below)?)),
         "draw" => Ok(Task::Draw(part_options(below))),
         "step" => Ok(Task::Step(step_options(below))),
         _ => unreachable!(),
@@ -92,6 +92,8 @@ fn run_options<'a>(alloc: Global, matches: &ArgMatches<'a>) -> Given<RunOptions<
         record: matches.get_str("record"),
         draw: matches.get_str("draw"),
         end: end_options(alloc, matches)?,
+        properties: property_options(alloc, matches)?,
+        stop: flag(matches, "stop"),
         explain: explain_option(matches),
     })
 }
@@ -106,6 +108,8 @@ fn replay_options<'a>(alloc: Global, matches: &ArgMatches<'a>) -> Given<ReplayOp
         schedule: given(matches, "SCHEDULE"),
         watch: number(matches, "watch"),
         end: end_options(alloc, matches)?,
+        properties: property_options(alloc, matches)?,
+        stop: flag(matches, "stop"),
         explain: explain_option(matches),
     })
 }
@@ -131,6 +135,7 @@ fn explore_options<'a>(alloc: Global, matches: &ArgMatches<'a>) -> Given<Explore
 {
     let servers = texts(alloc, matches, "servers")?;
     let until = texts(alloc, matches, "until")?;
+    let properties = property_options(alloc, matches)?;
     Ok(ExploreOptions {
         script: given(matches, "FILE"),
         runs: number(matches, "runs").unwrap_or(DEFAULT_RUNS),
@@ -143,6 +148,9 @@ fn explore_options<'a>(alloc: Global, matches: &ArgMatches<'a>) -> Given<Explore
         save: matches.get_str("save"),
         servers,
         until,
+        properties,
+        same_lines: flag(matches, "same-lines"),
+        same_order: flag(matches, "same-order"),
     })
 }
 
@@ -163,16 +171,19 @@ fn verify_options<'a>(alloc: Global, matches: &ArgMatches<'a>) -> Given<VerifyOp
 }
 
 // What `shrink` was given.
-fn shrink_options<'a>(matches: &ArgMatches<'a>) -> ShrinkOptions<'a>
+fn shrink_options<'a>(alloc: Global, matches: &ArgMatches<'a>) -> Given<ShrinkOptions<'a>>
     requires { AreServed (rows_of (found_of matches.now)) shrink_command.rules }
-    ensures { IsShrink (rows_of (found_of matches.now)) result }
+    ensures { IfOk result (IsShrink (rows_of (found_of matches.now))) }
 {
     let schedule = given(matches, "SCHEDULE");
-    ShrinkOptions {
+    let properties = property_options(alloc, matches)?;
+    Ok(ShrinkOptions {
         script: given(matches, "FILE"),
         schedule,
         tries: number(matches, "tries").unwrap_or(DEFAULT_TRIES),
-    }
+        properties,
+        stop: flag(matches, "stop"),
+    })
 }
 
 // What `step` was given.
@@ -195,6 +206,25 @@ fn end_options<'a>(alloc: Global, matches: &ArgMatches<'a>) -> Given<EndOptions<
     Ok(EndOptions {
         strict: flag(matches, "strict"),
         servers,
+    })
+}
+
+// What is said of what must hold of a run.
+fn property_options<'a>(alloc: Global, matches: &ArgMatches<'a>) -> Given<PropertyOptions<'a>>
+    requires { AreServed (rows_of (found_of matches.now)) property_rules }
+    ensures { IfOk result (IsProperties (rows_of (found_of matches.now))) }
+{
+    let never = texts(alloc, matches, "never")?;
+    let always = texts(alloc, matches, "always")?;
+    let once = texts(alloc, matches, "once")?;
+    let before = texts(alloc, matches, "before")?;
+    Ok(PropertyOptions {
+        never,
+        always,
+        once,
+        before,
+        empty: flag(matches, "empty"),
+        file: matches.get_str("properties"),
     })
 }
 

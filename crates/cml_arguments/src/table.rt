@@ -2,7 +2,7 @@
 
 ghost use Rattle.std.specs.Prelude.{◌≡◌, ◌<◌, ◌-◌, [], ◌∷◌, codes, false, true, IfOk};
 ghost use Rattle.clap.specs.Words.{app_of, with_subcommand, App, Rule, Shape};
-ghost use Rattle.cml_arguments.specs.Words.{any_rule, command_of, commands, count_rule, depth_rule, explains, explore_command, file_command, file_rule, flag_rule, list_rule, option_rule, part_command, replay_command, run_command, runs_rule, shrink_command, states_rule, step_command, trace_command, verify_command, with_end, with_explain, with_finding, with_order, with_others, with_rule, workers_rule, FollowsRule, IsShapedAs};
+ghost use Rattle.cml_arguments.specs.Words.{any_rule, command_of, commands, count_rule, depth_rule, explains, explore_command, file_command, file_rule, flag_rule, list_rule, option_rule, part_command, replay_command, run_command, runs_rule, shrink_command, states_rule, step_command, trace_command, verify_command, with_alike, with_end, with_explain, with_finding, with_order, with_others, with_properties, with_rule, with_stop, workers_rule, FollowsRule, IsShapedAs};
 
 use clap::{Arg, ArgAction, Command, value_parser};
 use std::alloc::{AllocError, Global};
@@ -103,8 +103,8 @@ fn run<'a>(alloc: Global) -> Made<'a>
     let command = with_arg(command, watch(alloc));
     let command = with_arg(command, record(alloc));
     let command = with_arg(command, draw);
-    let command = ordering(alloc, command);
-    explaining(alloc, ending(alloc, command))
+    let command = ending(alloc, ordering(alloc, command));
+    explaining(alloc, stopping(alloc, holding(alloc, command)))
 }
 
 // The command that runs a script again.
@@ -113,8 +113,8 @@ fn replay<'a>(alloc: Global) -> Made<'a>
 {
     let about = "Runs a script by a schedule that was saved";
     let command = with_arg(on_file(alloc, "replay", about), file(alloc, "SCHEDULE"));
-    let command = with_arg(command, watch(alloc));
-    explaining(alloc, ending(alloc, command))
+    let command = ending(alloc, with_arg(command, watch(alloc)));
+    explaining(alloc, stopping(alloc, holding(alloc, command)))
 }
 
 // The command that says what happens in a run.
@@ -181,7 +181,8 @@ fn explore<'a>(alloc: Global) -> Made<'a>
     let command = with_arg(command, steps);
     let command = with_arg(command, workers);
     let command = with_arg(command, picks);
-    finding(alloc, ordering(alloc, command))
+    let command = finding(alloc, ordering(alloc, command));
+    printing_alike(alloc, holding(alloc, command))
 }
 
 // The command, which says too how the order of the turns comes about.
@@ -236,7 +237,7 @@ fn shrink<'a>(alloc: Global) -> Made<'a>
         "How many replays it may take, 1 to 1000000000 [default: 10000]",
     );
     let command = with_arg(on_file(alloc, "shrink", about), file(alloc, "SCHEDULE"));
-    with_arg(command, tries)
+    stopping(alloc, holding(alloc, with_arg(command, tries)))
 }
 
 // The command that runs a script by hand.
@@ -273,6 +274,57 @@ fn ending<'a>(alloc: Global, command: Made<'a>) -> Made<'a>
         "Ends with status 6 where a thread is left waiting, or ended at a fault",
     );
     with_arg(with_arg(command, strict), servers(alloc))
+}
+
+// The command, which says too what must hold of a run.
+fn holding<'a>(alloc: Global, command: Made<'a>) -> Made<'a>
+    ensures { (shape : Shape) → IfOk command.entry (IsShapedAs shape) → IfOk result (IsShapedAs (with_properties shape)) }
+{
+    let never = list(alloc, "never", "P").help("No line may match pattern P; may be given again");
+    let always = list(alloc, "always", "P").help(
+        "A line must match pattern P once a run has ended; may be given again",
+    );
+    let once = list(alloc, "once", "P").help(
+        "At most one line may match pattern P; may be given again",
+    );
+    let before = list(alloc, "before", "P Q").help(
+        "No line may match Q before the first that matches P; may be given again",
+    );
+    let empty = flag_of(alloc, "empty").help(
+        "No mailbox and no port may hold an item once a run has ended",
+    );
+    let more = option(alloc, "properties", "FILE").help(
+        "Reads more of what must hold from a file, one on a line: never P",
+    );
+    let command = with_arg(command, never);
+    let command = with_arg(command, always);
+    let command = with_arg(command, once);
+    let command = with_arg(command, before);
+    let command = with_arg(command, empty);
+    with_arg(command, more)
+}
+
+// The command, which says too to stop where that does not hold.
+fn stopping<'a>(alloc: Global, command: Made<'a>) -> Made<'a>
+    ensures { (shape : Shape) → IfOk command.entry (IsShapedAs shape) → IfOk result (IsShapedAs (with_stop shape)) }
+{
+    let stop = flag_of(alloc, "stop").help(
+        "Ends the run at the item that breaks what must hold, or at the first fault of a thread",
+    );
+    with_arg(command, stop)
+}
+
+// The command, which says too that runs must print alike.
+fn printing_alike<'a>(alloc: Global, command: Made<'a>) -> Made<'a>
+    ensures { (shape : Shape) → IfOk command.entry (IsShapedAs shape) → IfOk result (IsShapedAs (with_alike shape)) }
+{
+    let lines = flag_of(alloc, "same-lines").help(
+        "All runs must print the same lines, in any order",
+    );
+    let order = flag_of(alloc, "same-order").help(
+        "All runs must print the same lines, in the same order",
+    );
+    with_arg(with_arg(command, lines), order)
 }
 
 // A command on a file.

@@ -9,6 +9,7 @@ use Rattle.std.proofs.lemmas.List.Sorted.{All-permutation}
 use Rattle.std.proofs.lemmas.Option.{slice_get-get_or}
 use Rattle.cml_check.specs.Syntax.{PlainItem}
 use Rattle.cml_hub.specs.Kept.{Kept}
+use Rattle.cml_judge.specs.declared.judged.Wanted.{Wanted}
 use Rattle.cml_phrase.specs.declared.place.Place.{Place}
 use Rattle.cml_schedule.specs.declared.item.Item.{Item}
 use Rattle.cml_explore.specs.declared.ends.EndTold.{EndTold}
@@ -33,12 +34,12 @@ none_gathered p servers asked made so_far none =
     record { ends = []; each = tt; gathered_so = so_far.gathered_so ∙ ap (gathered asked.first) empty }
 
 -- a run was added, which a hub has made by its schedule
-pub ended_by : {E : Type 0} (r : Result Bool E) (b : Bool) (p : List (PlainItem ℕ)) (servers : List ℕ) (until : List Until) (items : List Item) (number : ℕ) (h : Kept)
-    (old new : PlainExplored) → r ≡ Ok b → HasGoneThrough p items h
-    → IfOk r (λ s. (e : PlainEnded) × IsEndOf servers h e × (new ≡ with_ended number e old) × (s ≡ stops until e))
+pub ended_by : {E : Type 0} (r : Result Bool E) (b : Bool) (p : List (PlainItem ℕ)) (servers : List ℕ) (wanted : Wanted) (until : List Until) (items : List Item) (number : ℕ) (h : Kept)
+    (old new : PlainExplored) → wanted.properties.now ≡ [] → r ≡ Ok b → HasGoneThrough p items h
+    → IfOk r (λ s. (e : PlainEnded) × IsEndOf servers wanted h e × (new ≡ with_ended number e old) × (s ≡ stops until e))
     → (e : PlainEnded) × EndsSoAfter p servers items e × (new ≡ with_ended number e old)
-ended_by (Ok s) b p servers until items number h old new is run added = (added.0, (h, run, added.1), added.2)
-ended_by (Err x) b p servers until items number h old new is run added = cc
+ended_by (Ok s) b p servers wanted until items number h old new none is run added = (added.0, (h, wanted, none, run, added.1), added.2)
+ended_by (Err x) b p servers wanted until items number h old new none is run added = cc
 
 each_long : (p : List (PlainItem ℕ)) (servers : List ℕ) (schedules : List (List Item)) (es : List PlainEnded) → EachEndsAfter p servers schedules es → length es ≡ length schedules
 each_long p servers [] [] each = refl

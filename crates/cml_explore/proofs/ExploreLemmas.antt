@@ -1,6 +1,7 @@
 -- One run more.
 use Rattle.std.proofs.Common.{◌≡◌, inl, inr, ℕ, suc, ◌+◌, ◌<◌, ◌≤◌, Bool, true, false, if◌then◌else◌, ◌&&◌, ◌||◌, List, [], ◌∷◌, ◌++◌, map, length, refl, sym, ap, subst, ◌∙◌, arith}
-use Rattle.std.specs.Prelude.{◌==◌, Result, Ok, Err, IfOk}
+use Rattle.std.specs.Prelude.{◌==◌, Result, Ok, Err, IfOk, Vec}
+use Rattle.std.specs.declared.alloc.Global.{Global}
 use Rattle.std.proofs.lemmas.Bool.Decides.{nat_tests}
 use Rattle.std.specs.List.{All, list_any, list_all}
 use Rattle.std.proofs.lemmas.List.{length_push}
@@ -8,6 +9,7 @@ use Rattle.std.proofs.lemmas.List.Folds.{list_all-append, list_any-append}
 use Rattle.std.proofs.lemmas.List.Elements.{All-nil, All-cons, All-head, All-tail, All-weaker}
 use Rattle.cml_check.specs.Syntax.{PlainItem}
 use Rattle.cml_hub.specs.Kept.{Kept}
+use Rattle.cml_judge.specs.declared.judged.Wanted.{Wanted}
 use Rattle.cml_explore.specs.declared.explored.Asked.{Asked}
 use Rattle.cml_schedule.specs.declared.item.Item.{Item}
 use Rattle.sha2.specs.Sha256.{sha256}
@@ -20,7 +22,7 @@ use Rattle.cml_explore.specs.declared.orders.Orders.{Orders}
 use Rattle.cml_explore.specs.Orders.{seed_order}
 use Rattle.cml_explore.specs.SeedRuns.{IsSeedRun}
 use Rattle.cml_explore.specs.Finishes.{PlainEnded, is_well, stops, IsEndOf, EndsSoBy, EachEnds, finish_of}
-use Rattle.cml_explore.specs.Explored.{PlainExplored, gathered, nothing_made, with_ended, IsExplored, SoFar, HasMade}
+use Rattle.cml_explore.specs.Explored.{PlainExplored, gathered, nothing_made, with_ended, IsExplored, IsFirstOutput, SoFar, HasMade}
 use Rattle.cml_explore.specs.Merges.{StopsLast}
 
 -- the runs so far, of as many as were asked for
@@ -29,14 +31,14 @@ pub record MadeSoFar (p : List (PlainItem ℕ)) (asked : Asked) (made : PlainExp
   pub few : made.runs ≤ asked.runs
 
 -- one run more, by the seed that follows
-ends_more : (p : List (PlainItem ℕ)) (budget : ℕ) (orders : Orders) (servers : List ℕ) (seed : ℕ) (es : List PlainEnded) (n : ℕ) (e : PlainEnded) → n ≡ seed + length es
-    → EachEnds p budget orders servers seed es → EndsSoBy p budget orders servers n e → EachEnds p budget orders servers seed (es ++ e ∷ [])
-ends_more p budget orders servers seed [] n e at each is =
+ends_more : (p : List (PlainItem ℕ)) (budget : ℕ) (orders : Orders) (servers : List ℕ) (wanted : Wanted) (seed : ℕ) (es : List PlainEnded) (n : ℕ) (e : PlainEnded) → n ≡ seed + length es
+    → EachEnds p budget orders servers wanted seed es → EndsSoBy p budget orders servers wanted n e → EachEnds p budget orders servers wanted seed (es ++ e ∷ [])
+ends_more p budget orders servers wanted seed [] n e at each is =
     let here : n ≡ seed = omega arith in
-    (subst (λ k. EndsSoBy p budget orders servers k e) here is, tt)
-ends_more p budget orders servers seed (x ∷ es) n e at each is =
+    (subst (λ k. EndsSoBy p budget orders servers wanted k e) here is, tt)
+ends_more p budget orders servers wanted seed (x ∷ es) n e at each is =
     let next : n ≡ suc seed + length es = omega arith in
-    (each.0, ends_more p budget orders servers (suc seed) es n e next each.1 is)
+    (each.0, ends_more p budget orders servers wanted (suc seed) es n e next each.1 is)
 
 classed_more : (seed : ℕ) (es : List Finish) (n : ℕ) (e : Finish) (cs : List PlainClass) → n ≡ seed + length es
     → classed_all seed (es ++ e ∷ []) cs ≡ classed n e (classed_all seed es cs)
@@ -125,12 +127,12 @@ is_few p asked m made so_far h =
     All-weaker (λ (x : PlainClass). x.summary.runs ≤ length so_far.ends) (λ (x : PlainClass). x.summary.runs < m) (λ x g. omega (arith, g, many, h)) made.classes all
 
 module _ (p : List (PlainItem ℕ)) (asked : Asked) (old new : PlainExplored) (e : PlainEnded) (so_far : SoFar p asked old) (n : ℕ) (at : n ≡ asked.first + old.runs)
-    (is : EndsSoBy p asked.budget asked.orders asked.servers.now n e) (made : new ≡ with_ended n e old) where
+    (is : EndsSoBy p asked.budget asked.orders asked.servers.now asked.wanted n e) (made : new ≡ with_ended n e old) where
   at_seed : n ≡ asked.first + length so_far.ends
   at_seed = at ∙ ap (λ k. asked.first + k) (as_many p asked old so_far)
 
-  each_so : EachEnds p asked.budget asked.orders asked.servers.now asked.first (so_far.ends ++ e ∷ [])
-  each_so = ends_more p asked.budget asked.orders asked.servers.now asked.first so_far.ends n e at_seed so_far.each is
+  each_so : EachEnds p asked.budget asked.orders asked.servers.now asked.wanted asked.first (so_far.ends ++ e ∷ [])
+  each_so = ends_more p asked.budget asked.orders asked.servers.now asked.wanted asked.first so_far.ends n e at_seed so_far.each is
 
   all_so : new ≡ gathered asked.first (so_far.ends ++ e ∷ [])
   all_so =
@@ -184,13 +186,13 @@ made_so true p asked made so_far h is = let same : made.runs ≡ asked.runs = gr
 made_so false p asked made so_far h is = let few : made.runs < asked.runs = grind (arith, nat_tests) in (so_far, few)
 
 -- a run was added, which a hub has made by the seed
-pub added_by : {E : Type 0} (r : Result Bool E) (p : List (PlainItem ℕ)) (budget : ℕ) (orders : Orders) (order : Order) (servers : List ℕ)
+pub added_by : {E : Type 0} (r : Result Bool E) (p : List (PlainItem ℕ)) (budget : ℕ) (orders : Orders) (order : Order) (servers : List ℕ) (wanted : Wanted)
     (until : List Until) (seed : ℕ) (h : Kept) (old new : PlainExplored) → order ≡ seed_order orders seed → IsSeedRun p budget order seed h
-    → IfOk r (λ s. (e : PlainEnded) × IsEndOf servers h e × (new ≡ with_ended seed e old) × (s ≡ stops until e))
-    → IfOk r (λ s. (e : PlainEnded) × EndsSoBy p budget orders servers seed e × (new ≡ with_ended seed e old) × (s ≡ stops until e))
-added_by (Ok s) p budget orders order servers until seed h old new at run is =
+    → IfOk r (λ s. (e : PlainEnded) × IsEndOf servers wanted h e × (new ≡ with_ended seed e old) × (s ≡ stops until e))
+    → IfOk r (λ s. (e : PlainEnded) × EndsSoBy p budget orders servers wanted seed e × (new ≡ with_ended seed e old) × (s ≡ stops until e))
+added_by (Ok s) p budget orders order servers wanted until seed h old new at run is =
     (is.0, (h, subst (λ (o : Order). IsSeedRun p budget o seed h) at run, is.1), is.2, is.3)
-added_by (Err x) p budget orders order servers until seed h old new at run is = tt
+added_by (Err x) p budget orders order servers wanted until seed h old new at run is = tt
 
 -- they are at most as many as were asked for
 pub at_most : (p : List (PlainItem ℕ)) (asked : Asked) (made : PlainExplored) → IsExplored p asked made → made.runs ≤ asked.runs
@@ -212,3 +214,10 @@ pub finish_is : (h : Kept) (details : List Detail) (digest : List ℕ) (items : 
     → record { details = details; digest = digest; items = items } ≡ finish_of h details
 finish_is h details digest items b d =
     ap (λ x. record { details = details; digest = x; items = items }) b ∙ ap (λ x. record { details = details; digest = sha256 h.course.output; items = x }) d
+
+-- what the first run has printed, of which a hub keeps it
+pub first_so : {E : Type 0} (r : Result (Vec ℕ Global) E) (p : List (PlainItem ℕ)) (asked : Asked) (order : Order) (h : Kept) (bytes : List ℕ)
+    → order ≡ seed_order asked.orders asked.first → IsSeedRun p asked.budget order asked.first h → bytes ≡ h.course.output → IfOk r (λ v. v.items ≡ bytes)
+    → IfOk r (λ v. IsFirstOutput p asked v.items)
+first_so (Ok v) p asked order h bytes by run out is = (h, subst (λ (o : Order). IsSeedRun p asked.budget o asked.first h) by run, is ∙ out)
+first_so (Err e) p asked order h bytes by run out is = tt

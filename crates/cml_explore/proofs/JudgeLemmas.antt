@@ -26,6 +26,9 @@ use Rattle.cml_facts.specs.declared.fault.detail.Detail.TheVariants as detail
 use Rattle.cml_facts.specs.contracts.fault.detail.DetailEq.TheImpl.Laws.{laws-law}
 use Rattle.cml_facts.specs.Details.{AreDetails, alike, ask_detail, began_details, call_details, details_with, end_detail, fall_details, kind_detail, same_detail, standing_details}
 use Rattle.cml_facts.specs.Details.{thread_details, threads_details}
+use Rattle.cml_judge.specs.Judgements.{break_details, are_all_kept}
+use Rattle.cml_explore.specs.Classes.{Finish}
+use Rattle.cml_explore.specs.Finishes.{fate_of, is_good}
 use Rattle.cml_explore.specs.Laws.{JudgedAlike}
 
 both_true : (a b : Bool) → a && b ≡ true → (a ≡ true) × (b ≡ true)
@@ -264,27 +267,113 @@ module _ (servers : List ℕ) (c : PlainCourse) (falls : ℕ → Option PlainFal
       ∙ (one_held t thread (behind (suc t) threads) (behind_first (suc t) threads)
       ∙ ap (λ b. is_held_up servers (slice_get began t) thread || b) (all_held (suc t) threads))
 
+-- ---- the properties that are broken
+
+-- no detail stands there
+abbrev is_bare : List Detail → Bool
+is_bare [] = true
+is_bare (d ∷ ds) = false
+
+bare_same : (ds es : List Detail) → alike ds es ≡ true → is_bare ds ≡ is_bare es
+bare_same [] [] same = refl
+bare_same [] (e ∷ es) same = cc
+bare_same (d ∷ ds) [] same = cc
+bare_same (d ∷ ds) (e ∷ es) same = refl
+
+kept_bare : (k : ℕ) (judged : List (Option ℕ)) → are_all_kept judged ≡ is_bare (break_details k judged)
+kept_bare k [] = refl
+kept_bare k (None ∷ judged) = kept_bare (suc k) judged
+kept_bare k (Some line ∷ judged) = refl
+
+-- among the properties that are broken no count of faults stands
+breaks_first : (k : ℕ) (judged : List (Option ℕ)) (ys : List Detail) (n : ℕ) (rest : List Detail) → alike (break_details k judged) (ys ++ detail.Faults n ∷ rest) ≡ true → ⊥
+breaks_first k [] [] n rest same = cc
+breaks_first k [] (y ∷ ys) n rest same = cc
+breaks_first k (None ∷ judged) ys n rest same = breaks_first (suc k) judged ys n rest same
+breaks_first k (Some line ∷ judged) [] n rest same = cc
+breaks_first k (Some line ∷ judged) (y ∷ ys) n rest same =
+    breaks_first (suc k) judged ys n rest (both_true (same_detail (detail.Breaks k) y) (alike (break_details (suc k) judged) (ys ++ detail.Faults n ∷ rest)) same).1
+
+breaks_last : (k : ℕ) (judged : List (Option ℕ)) (xs : List Detail) (n : ℕ) (rest : List Detail) → alike (xs ++ detail.Faults n ∷ rest) (break_details k judged) ≡ true → ⊥
+breaks_last k [] [] n rest same = cc
+breaks_last k [] (x ∷ xs) n rest same = cc
+breaks_last k (None ∷ judged) xs n rest same = breaks_last (suc k) judged xs n rest same
+breaks_last k (Some line ∷ judged) [] n rest same = cc
+breaks_last k (Some line ∷ judged) (x ∷ xs) n rest same =
+    breaks_last (suc k) judged xs n rest (both_true (same_detail x (detail.Breaks k)) (alike (xs ++ detail.Faults n ∷ rest) (break_details (suc k) judged)) same).1
+
+both_hold : (a b : Bool) → a ≡ true → b ≡ true → a && b ≡ true
+both_hold a b one other = ap₂ (λ x y. x && y) one other
+
+-- What is alike with the properties that are broken is alike without them, and so are those.
+parts_alike : (one other : List (Option ℕ)) (xs ys : List Detail) (m n : ℕ)
+    → alike (xs ++ detail.Faults m ∷ break_details 0 one) (ys ++ detail.Faults n ∷ break_details 0 other) ≡ true
+    → (alike (xs ++ detail.Faults m ∷ []) (ys ++ detail.Faults n ∷ []) ≡ true) × (alike (break_details 0 one) (break_details 0 other) ≡ true)
+parts_alike one other [] [] m n same =
+    let parts = both_true (same_detail (detail.Faults m) (detail.Faults n)) (alike (break_details 0 one) (break_details 0 other)) same in
+    (both_hold (same_detail (detail.Faults m) (detail.Faults n)) true parts.0 refl, parts.1)
+parts_alike one other [] (y ∷ ys) m n same =
+    absurd (breaks_first 0 one ys n (break_details 0 other) (both_true (same_detail (detail.Faults m) y) (alike (break_details 0 one) (ys ++ detail.Faults n ∷ break_details 0 other)) same).1)
+parts_alike one other (x ∷ xs) [] m n same =
+    absurd (breaks_last 0 other xs m (break_details 0 one) (both_true (same_detail x (detail.Faults n)) (alike (xs ++ detail.Faults m ∷ break_details 0 one) (break_details 0 other)) same).1)
+parts_alike one other (x ∷ xs) (y ∷ ys) m n same =
+    let parts = both_true (same_detail x y) (alike (xs ++ detail.Faults m ∷ break_details 0 one) (ys ++ detail.Faults n ∷ break_details 0 other)) same in
+    let rest = parts_alike one other xs ys m n parts.1 in
+    (both_hold (same_detail x y) (alike (xs ++ detail.Faults m ∷ []) (ys ++ detail.Faults n ∷ [])) parts.0 rest.0, rest.1)
+
 -- ---- and so whether it was a good one
 
-good_same : (a b c d : Bool) (m n : ℕ) → a ≡ b → c ≡ d → m ≡ n → (a && not c && (m == 0)) ≡ (b && not d && (n == 0))
-good_same a b c d m n one two three = cc
+good_same : (a b c d e f : Bool) (m n : ℕ) → a ≡ b → c ≡ d → m ≡ n → e ≡ f → (a && not c && (m == 0) && e) ≡ (b && not d && (n == 0) && f)
+good_same a b c d e f m n one two three four = cc
 
 abbrev faults_of : Kept → ℕ
 faults_of h = fault_count (text_of h.course.program) h.course.items
 
+-- the details of a run, and behind them those of the properties that it breaks
+with_breaks : (h : Kept) (falls : ℕ → Option PlainFall) (own : List Detail) (judged : List (Option ℕ)) (all : List Detail) → own ≡ details_with h falls
+    → all ≡ own ++ break_details 0 judged
+    → all ≡ end_detail (ending h.budget (run_of h.course)) ∷ (threads_details h.course falls 0 h.course.world.threads ++ detail.Faults (faults_of h) ∷ break_details 0 judged)
+with_breaks h falls own judged all own_is all_is =
+    all_is ∙ (ap (λ (ds : List Detail). ds ++ break_details 0 judged) own_is
+    ∙ ap (λ (ds : List Detail). end_detail (ending h.budget (run_of h.course)) ∷ ds)
+    (append_assoc (threads_details h.course falls 0 h.course.world.threads) (detail.Faults (faults_of h) ∷ []) (break_details 0 judged)))
+
+module _ (servers : List ℕ) (one other : Kept) (f g : ℕ → Option PlainFall) (j k : List (Option ℕ)) where
+  abbrev left : List Detail
+  left = threads_details one.course f 0 one.course.world.threads
+
+  abbrev right : List Detail
+  right = threads_details other.course g 0 other.course.world.threads
+
+  abbrev first_end : End
+  first_end = ending one.budget (run_of one.course)
+
+  abbrev second_end : End
+  second_end = ending other.budget (run_of other.course)
+
+  fates_alike : alike (end_detail first_end ∷ (left ++ detail.Faults (faults_of one) ∷ break_details 0 j))
+      (end_detail second_end ∷ (right ++ detail.Faults (faults_of other) ∷ break_details 0 k)) ≡ true
+      → is_good (fate_of servers one (are_all_kept j)) ≡ is_good (fate_of servers other (are_all_kept k))
+  fates_alike whole =
+      let parts =
+      both_true (same_detail (end_detail first_end) (end_detail second_end))
+      (alike (left ++ detail.Faults (faults_of one) ∷ break_details 0 j) (right ++ detail.Faults (faults_of other) ∷ break_details 0 k)) whole in
+      let apart = parts_alike j k left right (faults_of one) (faults_of other) parts.1 in
+      good_same _ _ _ _ _ _ _ _ (ends_same first_end second_end parts.0)
+      (sym (all_held servers one.course f (faults_of one) 0 one.course.world.threads)
+      ∙ (held_same servers (left ++ detail.Faults (faults_of one) ∷ []) (right ++ detail.Faults (faults_of other) ∷ []) apart.0
+      ∙ all_held servers other.course g (faults_of other) 0 other.course.world.threads))
+      (counts_same (faults_of one) (faults_of other) (last_same left right (detail.Faults (faults_of one)) (detail.Faults (faults_of other)) apart.0))
+      (kept_bare 0 j ∙ (bare_same (break_details 0 j) (break_details 0 k) apart.1 ∙ sym (kept_bare 0 k)))
+
+along : (a b c d : List Detail) → a ≡ c → b ≡ d → alike a b ≡ true → alike c d ≡ true
+along a b c d e f same = subst (λ (xs : List Detail). alike xs d ≡ true) e (subst (λ (ys : List Detail). alike a ys ≡ true) f same)
+
 pub judged_alike : JudgedAlike
-judged_alike servers one other ds es of_one of_other same =
-    let whole : alike (details_with one of_one.falls) (details_with other of_other.falls) ≡ true =
-    subst (λ (xs : List Detail). alike xs (details_with other of_other.falls) ≡ true) of_one.details_are
-    (subst (λ (xs : List Detail). alike ds xs ≡ true) of_other.details_are same) in
-    let first = faults_of one in
-    let second = faults_of other in
-    let left = behind servers one.course of_one.falls first 0 one.course.world.threads in
-    let right = behind servers other.course of_other.falls second 0 other.course.world.threads in
-    let parts = both_true (same_detail (end_detail (ending one.budget (run_of one.course))) (end_detail (ending other.budget (run_of other.course)))) (alike left right) whole in
-    good_same _ _ _ _ _ _ (ends_same (ending one.budget (run_of one.course)) (ending other.budget (run_of other.course)) parts.0)
-    (sym (all_held servers one.course of_one.falls first 0 one.course.world.threads)
-    ∙ (held_same servers left right parts.1 ∙ all_held servers other.course of_other.falls second 0 other.course.world.threads))
-    (counts_same first second
-    (last_same (threads_details one.course of_one.falls 0 one.course.world.threads) (threads_details other.course of_other.falls 0 other.course.world.threads)
-    (detail.Faults first) (detail.Faults second) parts.1))
+judged_alike servers wanted one other d e of_one of_other same =
+    let first = with_breaks one of_one.own_are.falls of_one.own of_one.judged d.finish.details of_one.own_are.details_are (ap (λ (f : Finish). f.details) of_one.finish_is) in
+    let second = with_breaks other of_other.own_are.falls of_other.own of_other.judged e.finish.details of_other.own_are.details_are (ap (λ (f : Finish). f.details) of_other.finish_is) in
+    ap is_good of_one.fate_is
+    ∙ (fates_alike servers one other of_one.own_are.falls of_other.own_are.falls of_one.judged of_other.judged
+    (along _ _ _ _ first second same)
+    ∙ sym (ap is_good of_other.fate_is))

@@ -53,6 +53,7 @@ same_self (detail.Began n) = eq_self n
 same_self (detail.In n) = eq_self n
 same_self (detail.At n) = eq_self n
 same_self (detail.Faults n) = eq_self n
+same_self (detail.Breaks n) = eq_self n
 
 alike_self : (ds : List Detail) → alike ds ds ≡ true
 alike_self [] = refl
@@ -63,7 +64,7 @@ module _ (p : List (PlainItem ℕ)) (asked : Asked) (runs : ℕ) where
   Own c = IsOneOfClass p asked runs c.details c.summary.shortest
 
   -- the run is one of the class with these details
-  one_of : (seed : ℕ) (e : PlainEnded) (details : List Detail) → asked.first ≤ seed → seed < asked.first + runs → EndsSoBy p asked.budget asked.orders asked.servers.now seed e
+  one_of : (seed : ℕ) (e : PlainEnded) (details : List Detail) → asked.first ≤ seed → seed < asked.first + runs → EndsSoBy p asked.budget asked.orders asked.servers.now asked.wanted seed e
       → alike e.finish.details details ≡ true → IsOneOfClass p asked runs details e.finish.items
   one_of seed e details from below is same = record {
     seed = seed;
@@ -72,7 +73,13 @@ module _ (p : List (PlainItem ℕ)) (asked : Asked) (runs : ℕ) where
     hub = is.0;
     run = is.1;
     ended = e.finish.details;
-    are = is.2.details;
+    are = record {
+      own = is.2.own;
+      own_are = is.2.own_are;
+      judged = is.2.judged;
+      judged_so = is.2.judged_so;
+      details_are = ap (λ (f : Finish). f.details) is.2.finish_is;
+    };
     same = same;
     items_are = sym (ap (λ (f : Finish). f.items) is.2.finish_is);
   }
@@ -83,14 +90,14 @@ module _ (p : List (PlainItem ℕ)) (asked : Asked) (runs : ℕ) where
   shorter_own false details old new was is = was
 
   own_if : (b : Bool) (seed : ℕ) (e : PlainEnded) (c : PlainClass) (cs rest : List PlainClass) → asked.first ≤ seed → seed < asked.first + runs
-      → EndsSoBy p asked.budget asked.orders asked.servers.now seed e → alike e.finish.details c.details ≡ b → Own c → All Own cs → All Own rest
+      → EndsSoBy p asked.budget asked.orders asked.servers.now asked.wanted seed e → alike e.finish.details c.details ≡ b → Own c → All Own cs → All Own rest
       → All Own (if b then record c { summary = grown c.summary e.finish } ∷ cs else c ∷ rest)
   own_if true seed e c cs rest from below is same here old new =
       All-cons Own (record c { summary = grown c.summary e.finish }) cs
       (shorter_own (nat_lt (length e.finish.items) (length c.summary.shortest)) c.details c.summary.shortest e.finish.items here (one_of seed e c.details from below is same)) old
   own_if false seed e c cs rest from below is same here old new = All-cons Own c rest here new
 
-  own_more : (seed : ℕ) (e : PlainEnded) (cs : List PlainClass) → asked.first ≤ seed → seed < asked.first + runs → EndsSoBy p asked.budget asked.orders asked.servers.now seed e
+  own_more : (seed : ℕ) (e : PlainEnded) (cs : List PlainClass) → asked.first ≤ seed → seed < asked.first + runs → EndsSoBy p asked.budget asked.orders asked.servers.now asked.wanted seed e
       → All Own cs → All Own (classed seed e.finish cs)
   own_more seed e [] from below is all =
       All-cons Own (record { details = e.finish.details; summary = first_run seed e.finish }) [] (one_of seed e e.finish.details from below is (alike_self e.finish.details)) (All-nil Own)
@@ -99,7 +106,7 @@ module _ (p : List (PlainItem ℕ)) (asked : Asked) (runs : ℕ) where
       own_if (alike e.finish.details c.details) seed e c cs (classed seed e.finish cs) from below is refl (All-head Own c cs all) rest (own_more seed e cs from below is rest)
 
   own_all : (seed : ℕ) (es : List PlainEnded) (cs : List PlainClass) → asked.first ≤ seed → seed + length es ≤ asked.first + runs
-      → EachEnds p asked.budget asked.orders asked.servers.now seed es → All Own cs → All Own (classed_all seed (map (λ x. x.finish) es) cs)
+      → EachEnds p asked.budget asked.orders asked.servers.now asked.wanted seed es → All Own cs → All Own (classed_all seed (map (λ x. x.finish) es) cs)
   own_all seed [] cs from below each all = all
   own_all seed (e ∷ es) cs from below each all =
       let lt : seed < asked.first + runs = omega arith in

@@ -20,4 +20,5 @@ pub mod PriorityLemmas
 pub mod RunLemmas
 pub mod CutLemmas
 pub mod SearchLemmas
+pub mod ShrinkLemmas
 pub mod AlikeLemmas

@@ -83,12 +83,12 @@ neither false b e f = f
 
 module _ (p : List (PlainItem ℕ)) (asked : Asked) where
   each_append : (seed : ℕ) (xs ys : List PlainEnded) (n : ℕ) → n ≡ seed + length xs
-      → EachEnds p asked.budget asked.orders asked.servers.now seed xs
-      → EachEnds p asked.budget asked.orders asked.servers.now n ys
-      → EachEnds p asked.budget asked.orders asked.servers.now seed (xs ++ ys)
+      → EachEnds p asked.budget asked.orders asked.servers.now asked.wanted seed xs
+      → EachEnds p asked.budget asked.orders asked.servers.now asked.wanted n ys
+      → EachEnds p asked.budget asked.orders asked.servers.now asked.wanted seed (xs ++ ys)
   each_append seed [] ys n at each more =
       let here : n ≡ seed = omega arith in
-      subst (λ k. EachEnds p asked.budget asked.orders asked.servers.now k ys) here more
+      subst (λ k. EachEnds p asked.budget asked.orders asked.servers.now asked.wanted k ys) here more
   each_append seed (x ∷ xs) ys n at each more =
       let next : n ≡ suc seed + length xs = omega arith in
       (each.0, each_append (suc seed) xs ys n next each.1 more)

@@ -1,10 +1,15 @@
 -- Steps of the search, one after another.
-use Rattle.std.proofs.Common.{◌≡◌, ℕ, ◌+◌, ◌-◌, ◌<◌, ◌≤◌, ◌⊎◌, inl, inr, Bool, true, false, List, length, refl, sym, ap, subst, ◌∙◌, arith, eqb-true}
-use Rattle.std.specs.Prelude.{◌==◌, ◌||◌, Some, Result, Ok, Err, IfOk, OnOk, slice_get, remove}
+use Rattle.std.proofs.Common.{◌≡◌, ℕ, ◌+◌, ◌-◌, ◌<◌, ◌≤◌, ◌⊎◌, inl, inr, Bool, true, false, List, length, take, refl, sym, ap, subst, ◌∙◌, arith, eqb-true}
+use Rattle.std.specs.Prelude.{◌==◌, ◌||◌, MatchBool, Some, Result, Ok, Err, IfOk, OnOk, slice_get, remove}
+use Rattle.std.proofs.lemmas.List.{length-take-le}
+use Rattle.cml_check.specs.Syntax.{PlainItem}
 use Rattle.cml_schedule.specs.declared.item.Item.{Item}
 use Rattle.cml_facts.specs.declared.fault.detail.Detail.{Detail}
 use Rattle.cml_explore.specs.Cuts.{acts_in, without_rest}
-use Rattle.cml_explore.specs.ShrinkEnds.{EndsWith}
+use Rattle.cml_step.specs.Calls.{text_of}
+use Rattle.cml_judge.specs.Stops.{StopsBehind}
+use Rattle.cml_explore.specs.declared.shrink.replay.Asked.{Asked}
+use Rattle.cml_explore.specs.ShrinkEnds.{EndsWith, IsGiven}
 use Rattle.cml_explore.specs.Shrinking.{PlainShrunk, IsShrunk}
 use Rattle.cml_explore.specs.declared.shrink.replay.Goal.{Goal}
 use Rattle.cml_explore.specs.Searching.{PlainSearch, AlikeTo, UnlikeTo, NeededBy, MinimalTo, Steps, SearchBegins, Goes, SearchSettles, SearchFinds}
@@ -163,15 +168,30 @@ finds_so g given tries s a b c d begins first second third last = record {
   minimal = last.minimal;
 }
 
-pub shrunk_so : (g : Goal) (given : List Item) (tries : ℕ) (own : List Detail) (found : PlainSearch) (s : PlainShrunk) → g.details.now ≡ own
-    → EndsWith g.program.now g.budget given own → SearchFinds g given tries found → s ≡ record { items = found.items; used = tries - found.left }
-    → IsShrunk g.program.now g.budget given tries s
-shrunk_so g given tries own found s same ended finds is =
-    subst (λ (made : PlainShrunk). IsShrunk g.program.now g.budget given tries made) (sym is) (record {
+within_by : (b : Bool) (p : List (PlainItem ℕ)) (asked : Asked) (items : List Item) (count : ℕ)
+    → MatchBool b (StopsBehind asked.properties.now (text_of p) items count) (count ≡ length items) → count ≤ length items
+within_by true p asked items count is = is.within
+within_by false p asked items count is = omega (arith, is)
+
+-- so many of the items are no more than there are
+pub given_within : (p : List (PlainItem ℕ)) (asked : Asked) (items : List Item) (count : ℕ) → IsGiven p asked items count → count ≤ length items
+given_within p asked items count is = within_by asked.stops p asked items count is
+
+-- what was found for the items up to so many
+pub shrunk_so : (g : Goal) (items given : List Item) (count : ℕ) (own : List Detail) (found : PlainSearch) (s : PlainShrunk) → IsGiven g.program.now g.asked items count
+    → given ≡ take count items → g.details.now ≡ own → EndsWith g.program.now g.asked given own → SearchFinds g given g.asked.tries found
+    → s ≡ record { items = found.items; used = g.asked.tries - found.left } → IsShrunk g.program.now g.asked items s
+shrunk_so g items given count own found s so part same ended finds is =
+    let within = given_within g.program.now g.asked items count so in
+    let long : length given ≡ count = ap length part ∙ length-take-le count items within in
+    subst (λ (made : PlainShrunk). IsShrunk g.program.now g.asked items made) (sym is) (record {
+      count = count;
+      given_are = so;
       details = g.details.now;
-      ended = subst (λ (ds : List Detail). EndsWith g.program.now g.budget given ds) (sym same) ended;
+      ended = subst (λ (ds : List Detail). EndsWith g.program.now g.asked (take count items) ds) (sym same)
+          (subst (λ (l : List Item). EndsWith g.program.now g.asked l own) part ended);
       ends_alike = finds.ends_alike;
-      no_longer = finds.no_longer;
+      no_longer = omega (arith, finds.no_longer, long);
       in_tries = omega arith;
       minimal = elim finds.minimal [ inl e ↦ inl (omega (arith, e)) | inr least ↦ inr least ];
     })

@@ -14,14 +14,14 @@ is_commit (Exchange row) = true
 is_commit (Clock tick) = false
 
 -- this is how long a schedule of these items is
-abbrev pub AreCounts : List Item → Counts → Type 0
-AreCounts items counts = (counts.items ≡ length items) × (counts.commits ≡ count_by is_commit items)
+abbrev pub AreCountsOf : List Item → Counts → Type 0
+AreCountsOf items counts = (counts.items ≡ length items) × (counts.commits ≡ count_by is_commit items)
 
 -- What is told of the schedule that was found for the given one: how long both are, whether it has fewer items, how many others were tried, and
 -- whether these are all tries that there might be.
 pub record IsShrunkTold (given : List Item) (tries : ℕ) (found : PlainShrunk) (told : ShrunkTold) : Type 0 where
-  pub old_are : AreCounts given told.old
-  pub new_are : AreCounts found.items told.new
+  pub old_are : AreCountsOf given told.old
+  pub new_are : AreCountsOf found.items told.new
   pub shorter_is : told.shorter ≡ nat_lt (length found.items) (length given)
   pub tried_is : told.tried ≡ found.used
   pub all_is : told.all ≡ (found.used == tries)

@@ -1,5 +1,5 @@
 -- Ends of a program: where schedules lead, in classes of those that ended alike, and what is told of them.
-use Rattle.std.specs.Prelude.{◌≡◌, ℕ, suc, Bool, List, [], ◌∷◌, map, length}
+use Rattle.std.specs.Prelude.{◌≡◌, ℕ, suc, Bool, true, List, [], ◌∷◌, map, length}
 use Rattle.std.specs.declared.cmp.Ordering.{Ordering}
 use Rattle.std.specs.Ordering.{bool_cmp, nat_cmp, ordering_then}
 use Rattle.std.specs.List.Sorted.{IsPermutation, IsSorted}
@@ -9,6 +9,7 @@ use Rattle.cml_phrase.specs.declared.place.Place.{Place}
 use Rattle.cml_schedule.specs.declared.item.Item.{Item}
 use Rattle.cml_explore.specs.declared.ends.EndTold.{EndTold}
 use Rattle.cml_explore.specs.declared.ends.EndsTold.{EndsTold}
+use Rattle.cml_judge.specs.declared.judged.Wanted.{Wanted}
 use Rattle.cml_explore.specs.Classes.{PlainClass}
 use Rattle.cml_explore.specs.Explored.{PlainExplored, gathered}
 use Rattle.cml_explore.specs.Finishes.{PlainEnded, IsEndOf, fate_of, is_good}
@@ -19,9 +20,10 @@ pub record HasGoneThrough (p : List (PlainItem ℕ)) (schedule : List Item) (h :
   pub program : h.course.program ≡ p
   pub items_are : h.course.items ≡ schedule
 
--- the run of the program by this schedule ended so
+-- the run of the program by this schedule ended so, where nothing is wanted of it
 abbrev pub EndsSoAfter : List (PlainItem ℕ) → List ℕ → List Item → PlainEnded → Type 0
-EndsSoAfter p servers schedule e = (h : Kept) × HasGoneThrough p schedule h × IsEndOf servers h e
+EndsSoAfter p servers schedule e =
+    (h : Kept) × (wanted : Wanted) × (wanted.properties.now ≡ []) × HasGoneThrough p schedule h × IsEndOf servers wanted h e
 
 -- the runs by these schedules ended so, in turn
 abbrev pub EachEndsAfter : List (PlainItem ℕ) → List ℕ → List (List Item) → List PlainEnded → Type 0
@@ -39,7 +41,7 @@ pub record IsGathered (p : List (PlainItem ℕ)) (servers : List ℕ) (schedules
 pub record IsEndTold (places : List (List Place)) (p : List (PlainItem ℕ)) (servers : List ℕ) (schedule : List Item) (told : EndTold) : Type 0 where
   pub hub : Kept
   pub by : HasGoneThrough p schedule hub
-  pub well_is : told.well ≡ is_good (fate_of servers hub)
+  pub well_is : told.well ≡ is_good (fate_of servers hub true)
   pub items_are : told.items ≡ length schedule
   pub run_is : IsRunTold places hub told.run
 

@@ -4,6 +4,9 @@ use Rattle.std.specs.List.{list_any, list_all}
 use Rattle.cml_check.specs.Syntax.{PlainItem}
 use Rattle.cml_explore.specs.declared.explored.Asked.{Asked}
 use Rattle.cml_explore.specs.declared.explored.Until.{Until}
+use Rattle.cml_hub.specs.Kept.{Kept}
+use Rattle.cml_explore.specs.SeedRuns.{IsSeedRun}
+use Rattle.cml_explore.specs.Orders.{seed_order}
 use Rattle.cml_explore.specs.Classes.{PlainClass, classed, classes_of}
 use Rattle.cml_explore.specs.Finishes.{PlainEnded, is_well, stops, EachEnds}
 
@@ -31,14 +34,19 @@ AreEnough until runs ends =
 -- What was asked for was done: these are the classes of the runs that the seeds define, one after another.
 pub record IsExplored (p : List (PlainItem ℕ)) (asked : Asked) (made : PlainExplored) : Type 0 where
   pub ends : List PlainEnded
-  pub each : EachEnds p asked.budget asked.orders asked.servers.now asked.first ends
+  pub each : EachEnds p asked.budget asked.orders asked.servers.now asked.wanted asked.first ends
   pub enough : AreEnough asked.until.now asked.runs ends
   pub gathered_so : made ≡ gathered asked.first ends
+
+-- the first of the runs that are asked for prints this
+abbrev pub IsFirstOutput : List (PlainItem ℕ) → Asked → List ℕ → Type 0
+IsFirstOutput p asked output =
+    (h : Kept) × IsSeedRun p asked.budget (seed_order asked.orders asked.first) asked.first h × (output ≡ h.course.output)
 
 -- So far these are the classes of the runs that the first seeds define, none of which is one at which to stop.
 pub record SoFar (p : List (PlainItem ℕ)) (asked : Asked) (made : PlainExplored) : Type 0 where
   pub ends : List PlainEnded
-  pub each : EachEnds p asked.budget asked.orders asked.servers.now asked.first ends
+  pub each : EachEnds p asked.budget asked.orders asked.servers.now asked.wanted asked.first ends
   pub none : list_any (stops asked.until.now) ends ≡ false
   pub gathered_so : made ≡ gathered asked.first ends
 

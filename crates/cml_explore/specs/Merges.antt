@@ -51,7 +51,7 @@ pub record FitBeside (one other : PlainExplored) : Type 0 where
 pub record StopsLast (p : List (PlainItem ℕ)) (asked : Asked) (made : PlainExplored) : Type 0 where
   pub before : List PlainEnded
   pub last : PlainEnded
-  pub each : EachEnds p asked.budget asked.orders asked.servers.now asked.first (before ++ last ∷ [])
+  pub each : EachEnds p asked.budget asked.orders asked.servers.now asked.wanted asked.first (before ++ last ∷ [])
   pub none : list_any (stops asked.until.now) before ≡ false
   pub stops_there : stops asked.until.now last ≡ true
   pub few : made.runs ≤ asked.runs

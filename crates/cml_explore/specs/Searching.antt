@@ -12,16 +12,16 @@ pub record PlainSearch : Type 0 where
 
 -- of the program, the budget and the details of a goal
 abbrev pub AlikeTo : Goal → List Item → Type 0
-AlikeTo g items = EndsAlike g.program.now g.budget g.details.now items
+AlikeTo g items = EndsAlike g.program.now g.asked g.details.now items
 
 abbrev pub UnlikeTo : Goal → List Item → Type 0
-UnlikeTo g items = IsUnlike g.program.now g.budget g.details.now items
+UnlikeTo g items = IsUnlike g.program.now g.asked g.details.now items
 
 abbrev pub NeededBy : Goal → List Item → ℕ → Type 0
-NeededBy g items i = IsNeeded g.program.now g.budget g.details.now items i
+NeededBy g items i = IsNeeded g.program.now g.asked g.details.now items i
 
 abbrev pub MinimalTo : Goal → List Item → Type 0
-MinimalTo g items = IsMinimal g.program.now g.budget g.details.now items
+MinimalTo g items = IsMinimal g.program.now g.asked g.details.now items
 
 -- One step: other items took the place of those that there were. They end alike and are no more, and a try was used. Or none did: then this holds,
 -- unless no try is left.

@@ -3,6 +3,7 @@ use Rattle.std.specs.Prelude.{◌≡◌, ◌≤◌, ◌⊎◌, ℕ, ◌+◌, ◌
 use Rattle.std.specs.Option.{option_map_or}
 use Rattle.cml_check.specs.Syntax.{PlainItem}
 use Rattle.cml_hub.specs.Kept.{Kept}
+use Rattle.cml_judge.specs.Judgements.{IsJudgedAt, are_all_kept}
 use Rattle.cml_explore.specs.SeedRuns.{IsSeedRun}
 use Rattle.cml_explore.specs.declared.seed.order.Order.{Order}
 use Rattle.cml_explore.specs.declared.explored.Asked.{Asked}
@@ -15,18 +16,22 @@ use Rattle.cml_explore.specs.Finishes.{fate_of, stops_at}
 use Rattle.cml_explore.specs.Orders.{seed_order}
 
 -- which of these kinds of run one of this fate is, the first of them
-abbrev pub kind_of : List Until → Fate → Option Until
-kind_of until f = find (λ one. stops_at one f) until
+abbrev pub stop_kind : List Until → Fate → Option Until
+stop_kind until f = find (λ one. stops_at one f) until
 
 -- the run by this seed in this order, which is of this kind
 abbrev pub stopped_by : ℕ → Order → Until → Stopped
 stopped_by seed order kind = record { seed = seed; order = order; kind = kind }
 
--- The run by this seed is one at which to stop, of this kind and in this order; or it is none.
+-- The run of this hub, by this seed, is one at which to stop, of this kind and in this order; or it is none.
+abbrev pub IsStopOf : Asked → ℕ → Kept → Option Stopped → Type 0
+IsStopOf asked seed h stop =
+    (judged : List (Option ℕ)) × IsJudgedAt asked.wanted h judged
+    × (stop ≡ option_map (stopped_by seed (seed_order asked.orders seed)) (stop_kind asked.until.now (fate_of asked.servers.now h (are_all_kept judged))))
+
+-- The same of the run by this seed.
 abbrev pub IsStopAt : List (PlainItem ℕ) → Asked → ℕ → Option Stopped → Type 0
-IsStopAt p asked seed stop =
-    (h : Kept) × IsSeedRun p asked.budget (seed_order asked.orders seed) seed h
-    × (stop ≡ option_map (stopped_by seed (seed_order asked.orders seed)) (kind_of asked.until.now (fate_of asked.servers.now h)))
+IsStopAt p asked seed stop = (h : Kept) × IsSeedRun p asked.budget (seed_order asked.orders seed) seed h × IsStopOf asked seed h stop
 
 -- Where it is said at which runs to stop, this is the last of so many, if that is one; where it is not said, or there are no runs, there is none.
 abbrev pub IsLastStop : List (PlainItem ℕ) → Asked → ℕ → Option Stopped → Type 0

@@ -1,19 +1,26 @@
 -- What is told of many runs.
-use Rattle.std.specs.Prelude.{◌≡◌, ℕ, ◌+◌, ◌-◌, ◌&&◌, nat_le, if◌then◌else◌, Bool, true, false, List, map, length, count_by, Option, Some, None, slice_get}
+use Rattle.std.specs.Prelude.{◌≡◌, ℕ, ◌+◌, ◌-◌, ◌&&◌, nat_le, if◌then◌else◌, Bool, true, false, List, map, length, count_by, Option, Some, None, slice_get, [], ◌∷◌}
 use Rattle.std.specs.List.{All}
 use Rattle.cml_check.specs.Syntax.{PlainItem}
 use Rattle.cml_step.specs.Calls.{text_of}
 use Rattle.cml_hub.specs.Courses.{PlainCourse, run_of}
-use Rattle.cml_hub.specs.Deeds.{fault_count}
+use Rattle.cml_hub.specs.Deeds.{fault_count, origins}
 use Rattle.cml_hub.specs.Kept.{Kept}
 use Rattle.cml_hub.specs.Runs.{ending}
 use Rattle.cml_phrase.specs.declared.place.Place.{Place}
 use Rattle.cml_facts.specs.Stuck.{is_server}
+use Rattle.cml_facts.specs.Waits.{who_is}
+use Rattle.cml_facts.specs.declared.ending.awaited.Named.{Named}
 use Rattle.cml_facts.specs.declared.ending.standing.Spot.{Spot}
 use Rattle.cml_facts.specs.declared.ending.left.Stands.TheVariants as standing
 use Rattle.cml_facts.specs.Falls.{PlainFall, AreFalls}
+use Rattle.cml_judge.specs.Judgements.{IsJudgedAt, are_all_kept}
+use Rattle.cml_judge.specs.Spots.{AreBreaksFrom}
+use Rattle.cml_judge.specs.declared.breaks.Break.{Break}
+use Rattle.cml_judge.specs.declared.spot.Spot as printed
 use Rattle.cml_explore.specs.SeedRuns.{IsSeedRun}
 use Rattle.cml_explore.specs.declared.explored.Asked.{Asked}
+use Rattle.cml_explore.specs.declared.told.BreakTold.{BreakTold}
 use Rattle.cml_explore.specs.declared.told.ClassTold.{ClassTold}
 use Rattle.cml_explore.specs.declared.told.RunTold.{RunTold}
 use Rattle.cml_explore.specs.declared.told.RunsTold.{RunsTold}
@@ -59,10 +66,34 @@ pub record IsRunTold (places : List (List Place)) (h : Kept) (told : RunTold) : 
   pub runs_are : told.runs ≡ count_by (λ t. is_run t.state) told.threads.items
   pub faults_are : told.faults ≡ fault_count (text_of h.course.program) h.course.items
 
--- what is told of the run of a program by a seed, and whether it ended well
-abbrev pub IsSeedTold : List (List Place) → List (PlainItem ℕ) → Asked → ℕ → Bool → RunTold → Type 0
-IsSeedTold places p asked seed well told =
-    (h : Kept) × IsSeedRun p asked.budget (seed_order asked.orders seed) seed h × (well ≡ is_good (fate_of asked.servers.now h)) × IsRunTold places h told
+-- the thread by a turn of which a property was broken
+abbrev pub IsTeller : Kept → Option printed.Spot → Option Named → Type 0
+IsTeller h None who = who ≡ None
+IsTeller h (Some spot) who = who ≡ Some (who_is (origins (text_of h.course.program) h.course.items) spot.thread.0)
+
+-- what is told of a property that the run of a hub breaks, and whose turn it was
+pub record IsBreakTold (h : Kept) (one : Break) (told : BreakTold) : Type 0 where
+  pub one_is : told.one ≡ one
+  pub teller : IsTeller h one.spot told.who
+
+abbrev pub AreEachBreakTold : Kept → List Break → List BreakTold → Type 0
+AreEachBreakTold h [] [] = Unit {0}
+AreEachBreakTold h (one ∷ ones) (told ∷ tolds) = IsBreakTold h one told × AreEachBreakTold h ones tolds
+AreEachBreakTold h _ _ = ⊥
+
+-- of the properties that are wanted, those that the run of a hub breaks, and whether it ended well
+pub record IsJudgementTold (asked : Asked) (h : Kept) (well : Bool) (told : List BreakTold) : Type 0 where
+  pub judged : List (Option ℕ)
+  pub judged_so : IsJudgedAt asked.wanted h judged
+  pub well_is : well ≡ is_good (fate_of asked.servers.now h (are_all_kept judged))
+  pub breaks : List Break
+  pub breaks_are : AreBreaksFrom h 0 judged breaks
+  pub told_are : AreEachBreakTold h breaks told
+
+-- what is told of the run of a program by a seed, whether it ended well, and what it breaks
+abbrev pub IsSeedTold : List (List Place) → List (PlainItem ℕ) → Asked → ℕ → Bool → List BreakTold → RunTold → Type 0
+IsSeedTold places p asked seed well breaks told =
+    (h : Kept) × IsSeedRun p asked.budget (seed_order asked.orders seed) seed h × IsJudgementTold asked h well breaks × IsRunTold places h told
 
 -- What is told of one of the classes: what is kept of it, and what is told of its first run.
 pub record IsClassTold (places : List (List Place)) (p : List (PlainItem ℕ)) (asked : Asked) (classes : List PlainClass) (told : ClassTold) : Type 0 where
@@ -73,7 +104,7 @@ pub record IsClassTold (places : List (List Place)) (p : List (PlainItem ℕ)) (
   pub first_is : told.first ≡ class.summary.first
   pub items_are : told.items ≡ class.summary.items
   pub order_is : told.order ≡ seed_order asked.orders told.first
-  pub run_is : IsSeedTold places p asked told.first told.well told.run
+  pub run_is : IsSeedTold places p asked told.first told.well told.breaks.items told.run
 
 -- What is told of the classes: of each, by size.
 pub record AreClassesTold (places : List (List Place)) (p : List (PlainItem ℕ)) (asked : Asked) (classes : List PlainClass) (told : List ClassTold) : Type 0 where

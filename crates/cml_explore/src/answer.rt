@@ -29,6 +29,14 @@ pub fn explain_runs(
 {
     let told = tell_runs(alloc, text, forms, program, asked, made)?;
     let mut said = Vec::new(alloc);
-    write_runs(alloc, &mut said, name, forms, &told, None)?;
+    write_runs(
+        alloc,
+        &mut said,
+        name,
+        forms,
+        asked.wanted.properties,
+        &told,
+        None,
+    )?;
     Ok(said)
 }

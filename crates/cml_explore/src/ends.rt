@@ -1,6 +1,6 @@
 //! Ends of a program: where schedules lead, in classes of those that ended alike.
 
-ghost use Rattle.std.specs.{Prelude.{◌≡◌, ◌<◌, IfOk, length, map}, List.{All}};
+ghost use Rattle.std.specs.{Prelude.{◌≡◌, ◌<◌, [], IfOk, length, map}, List.{All}};
 ghost use Rattle.cml_phrase.specs.Spots.{all_places};
 ghost use Rattle.cml_explore.specs.Explored.{with_ended};
 ghost use Rattle.cml_explore.specs.Finishes.{PlainEnded};
@@ -17,6 +17,7 @@ use crate::told::RunTold;
 use cml_check::Prog;
 use cml_facts::ending::let_go;
 use cml_hub::{Hub, Item};
+use cml_judge::Wanted;
 use cml_phrase::{Place, statement_places};
 use cml_text::Sexpr;
 use std::alloc::{AllocError, Global};
@@ -57,7 +58,8 @@ pub(crate) fn hub_by(alloc: Global, program: &Prog, items: &[Item]) -> Result<Hu
 
 // What is asked of schedules: nothing but which threads are servers.
 fn asked_of(servers: &[u32]) -> Asked<'_>
-    ensures { result.servers.now ≡ servers.now }
+    ensures servers { result.servers.now ≡ servers.now }
+    ensures wanted { result.wanted.properties.now ≡ [] }
 {
     Asked {
         budget: BUDGET,
@@ -65,6 +67,10 @@ fn asked_of(servers: &[u32]) -> Asked<'_>
         runs: 0,
         orders: Orders::Named(Order::Queue),
         servers,
+        wanted: Wanted {
+            properties: &[],
+            first: &[],
+        },
         until: &[],
     }
 }
@@ -81,6 +87,7 @@ impl Explored {
     ) -> Result<(), AllocError>
         requires few { All (λ c. c.summary.runs < u64.MAX) self.old.classes }
         requires runs { self.old.runs < u64.MAX }
+        requires none { asked.now.wanted.properties.now ≡ [] }
         ensures { IfOk result (λ _. (e : PlainEnded) × EndsSoAfter program.now asked.now.servers.now items.now e × (self.new ≡ with_ended number e self.old)) }
     {
         let hub = hub_by(alloc, program, items)?;
@@ -126,7 +133,7 @@ fn end_told(
     ensures { IfOk result (IsEndTold (map (λ own. own.items) places.now) program.now servers.now items.now) }
 {
     let hub = hub_by(alloc, program, items)?;
-    let well = is_well(fate_of(servers, &hub));
+    let well = is_well(fate_of(servers, &hub, &[]));
     let told = run_told(alloc, places, &hub);
     let_go(hub);
     Ok(EndTold {

@@ -4,7 +4,7 @@ ghost use Rattle.std.specs.{Prelude.{◌≡◌, ◌≤◌, ◌<◌, ◌+◌, ◌
 ghost use Rattle.cml_check.specs.Syntax.{PlainItem};
 ghost use Rattle.cml_hub.specs.Kept.{IsBudget};
 ghost use Rattle.cml_explore.specs.{declared.explored.Asked.{Asked}, Finishes.{PlainEnded, IsEndOf, EndsSoBy}};
-ghost use Rattle.cml_explore.specs.{Explored.{IsExplored, SoFar, HasMade, with_ended}, Merges.{FitBeside, parts_merged}};
+ghost use Rattle.cml_explore.specs.{Explored.{IsExplored, IsFirstOutput, SoFar, HasMade, with_ended}, Merges.{FitBeside, parts_merged}};
 ghost use Rattle.cml_explore.specs.Finishes as spec;
 
 use crate::classes::Classes;
@@ -13,8 +13,8 @@ use crate::orders::Orders;
 use crate::seed::seed_run;
 use cml_check::Prog;
 use cml_facts::ending::let_go;
-use cml_facts::fault::details_of;
 use cml_hub::{End, Hub};
+use cml_judge::{Wanted, details_with, judge_hub};
 use std::alloc::{AllocError, Global};
 use std::marker::Model;
 
@@ -46,6 +46,8 @@ pub struct Asked<'a> {
     pub orders: Orders,
     /// The numbers of the functions of servers: a thread that began with one of them may wait.
     pub servers: &'a [u32],
+    /// What must hold of each run.
+    pub wanted: Wanted<'a>,
     /// The runs at which to stop, before all were made: the first of any of these kinds.
     pub until: &'a [Until],
 }
@@ -70,7 +72,7 @@ impl Model for Explored {
 pub(crate) fn is_well(fate: Fate) -> bool
     ensures { result ≡ spec.is_good fate }
 {
-    fate.end == End::Quiet && !fate.held_up && fate.faults == 0
+    fate.end == End::Quiet && !fate.held_up && fate.faults == 0 && fate.kept
 }
 
 // Whether a run of this fate is one at which this says to stop.
@@ -130,12 +132,13 @@ impl Explored {
     ) -> Result<bool, AllocError>
         requires few { All (λ c. c.summary.runs < u64.MAX) self.old.classes }
         requires runs { self.old.runs < u64.MAX }
-        ensures added { IfOk result (λ stops. (e : PlainEnded) × IsEndOf asked.now.servers.now hub.now e
+        ensures added { IfOk result (λ stops. (e : PlainEnded) × IsEndOf asked.now.servers.now asked.now.wanted hub.now e
             × (self.new ≡ with_ended seed e self.old) × (stops ≡ spec.stops asked.now.until.now e)) }
         ensures err { OnErr result (self.new ≡ self.old) }
     {
-        let details = details_of(alloc, hub)?;
-        let fate = fate_of(asked.servers, hub);
+        let judged = judge_hub(alloc, &asked.wanted, hub)?;
+        let details = details_with(alloc, hub, judged.as_slice())?;
+        let fate = fate_of(asked.servers, hub, judged.as_slice());
         self.classes
             .count(alloc, seed, details, digest_of(hub), hub.schedule())?;
         self.runs += 1;
@@ -154,7 +157,7 @@ impl Explored {
         requires budget { IsBudget asked.now.budget }
         requires few { All (λ c. c.summary.runs < u64.MAX) self.old.classes }
         requires runs { self.old.runs < u64.MAX }
-        ensures added { IfOk result (λ stops. (e : PlainEnded) × EndsSoBy program.now asked.now.budget asked.now.orders asked.now.servers.now seed e
+        ensures added { IfOk result (λ stops. (e : PlainEnded) × EndsSoBy program.now asked.now.budget asked.now.orders asked.now.servers.now asked.now.wanted seed e
             × (self.new ≡ with_ended seed e self.old) × (stops ≡ spec.stops asked.now.until.now e)) }
         ensures err { OnErr result (self.new ≡ self.old) }
     {
@@ -220,7 +223,7 @@ impl Explored {
         self.runs
     }
 
-    /// Whether each of them ended well: nothing was left to do, no thread waits but servers, and none ended at a fault.
+    /// Whether each of them ended well: nothing was left to do, no thread waits but servers, none ended at a fault, and no property breaks.
     pub fn is_well(&self) -> bool
         ensures { result ≡ self.now.well }
     {
@@ -247,4 +250,19 @@ pub fn explore(alloc: Global, program: &Prog, asked: Asked<'_>) -> Result<Explor
         }
     }
     Ok(made)
+}
+
+/// What the first of the runs that are asked for prints, like which all others print that keep a property which compares runs.
+///
+/// # Errors
+/// Out of memory.
+pub fn first_output(alloc: Global, program: &Prog, asked: &Asked<'_>) -> Result<Vec<u8>, AllocError>
+    requires budget { IsBudget asked.now.budget }
+    ensures { IfOk result (λ output. IsFirstOutput program.now asked.now output.items) }
+{
+    let order = asked.orders.of(asked.first);
+    let hub = seed_run(alloc, program, asked.budget, order, asked.first)?;
+    let output = Vec::from_slice(alloc, hub.out().as_bytes());
+    let_go(hub);
+    output
 }

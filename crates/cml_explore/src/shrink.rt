@@ -10,4 +10,5 @@ mod shrunk;
 
 pub use counts::{Counts, ShrunkTold, counts_of, push_counts, tell_shrunk, write_shrunk};
 pub use fault::ShrinkFault;
+pub use replay::Asked;
 pub use shrunk::{Shrunk, shrink};

@@ -2,7 +2,7 @@
 
 ghost use Rattle.std.specs.Prelude.{◌≡◌, ◌≤◌, ◌+◌, ◌^◌, IfOk, option_map, length, ◌==◌};
 ghost use Rattle.cml_hub.specs.Kept.{IsBudget};
-ghost use Rattle.cml_explore.specs.Stops.{IsLastStop, IsStopAt, is_saved};
+ghost use Rattle.cml_explore.specs.Stops.{IsLastStop, IsStopAt, IsStopOf, is_saved};
 ghost use Rattle.cml_explore.specs.Stops as spec;
 
 use crate::explored::{Asked, Until, stops_at};
@@ -11,11 +11,13 @@ use crate::seed::{Order, seed_run};
 use crate::told::{ClassTold, RunsTold, Stopped};
 use cml_check::Prog;
 use cml_facts::ending::let_go;
+use cml_hub::Hub;
+use cml_judge::judge_hub;
 use std::alloc::{AllocError, Global};
 
 // Which of these kinds of run one of this fate is, the first of them.
-fn kind_of(until: &[Until], fate: Fate) -> Option<Until>
-    ensures { result ≡ spec.kind_of until.now fate }
+fn stop_kind(until: &[Until], fate: Fate) -> Option<Until>
+    ensures { result ≡ spec.stop_kind until.now fate }
 {
     until.iter().copied().find(|one| stops_at(*one, fate))
 }
@@ -30,6 +32,20 @@ fn stopped(seed: u64, order: Order, kind: Option<Until>) -> Option<Stopped>
     }
 }
 
+// The run of this hub, which was made by this seed, if it is one at which to stop.
+fn stop_of_hub(
+    alloc: Global,
+    asked: &Asked<'_>,
+    hub: &Hub,
+    seed: u64,
+) -> Result<Option<Stopped>, AllocError>
+    ensures { IfOk result (IsStopOf asked.now seed hub.now) }
+{
+    let judged = judge_hub(alloc, &asked.wanted, hub)?;
+    let kind = stop_kind(asked.until, fate_of(asked.servers, hub, judged.as_slice()));
+    Ok(stopped(seed, asked.orders.of(seed), kind))
+}
+
 // The run by this seed, if it is one at which to stop. It is made once more.
 fn stop_at(
     alloc: Global,
@@ -42,9 +58,9 @@ fn stop_at(
 {
     let order = asked.orders.of(seed);
     let hub = seed_run(alloc, program, asked.budget, order, seed)?;
-    let kind = kind_of(asked.until, fate_of(asked.servers, &hub));
+    let told = stop_of_hub(alloc, asked, &hub, seed);
     let_go(hub);
-    Ok(stopped(seed, order, kind))
+    told
 }
 
 // The last of so many runs, if there is one and it is one at which to stop.

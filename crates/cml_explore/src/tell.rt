@@ -3,7 +3,7 @@
 ghost use Rattle.std.specs.{Prelude.{◌≡◌, ◌<◌, ◌≤◌, ◌+◌, ◌^◌, IfOk, count_by, length, map}, List.{All}};
 ghost use Rattle.cml_hub.specs.Kept.{IsBudget};
 ghost use Rattle.cml_phrase.specs.Spots.{all_places};
-ghost use Rattle.cml_explore.specs.Told.{AreClassesTold, AreThreadsTold, IsClassTold, IsRunTold, IsSeedTold, IsToldOfRuns};
+ghost use Rattle.cml_explore.specs.Told.{AreClassesTold, AreEachBreakTold, AreThreadsTold, IsClassTold, IsJudgementTold, IsRunTold, IsSeedTold, IsTeller, IsToldOfRuns};
 ghost use Rattle.cml_explore.specs.Told as spec;
 
 use crate::classes::Classes;
@@ -12,11 +12,12 @@ use crate::finish::fate_of;
 use crate::seed::seed_run;
 use crate::sight::{Sighted, spots_of};
 use crate::stop::last_stop;
-use crate::told::{ClassTold, RunTold, RunsTold, ThreadLeft, ThreadState};
+use crate::told::{BreakTold, ClassTold, RunTold, RunsTold, ThreadLeft, ThreadState};
 use cml_check::Prog;
-use cml_facts::ending::{Stands, let_go};
+use cml_facts::ending::{Named, Stands, let_go, who_is};
 use cml_facts::fault::retell;
 use cml_hub::Hub;
+use cml_judge::{Break, Spot, breaks_of, judge_hub};
 use cml_phrase::{Place, statement_places};
 use cml_text::Sexpr;
 use std::alloc::{AllocError, Global};
@@ -109,18 +110,72 @@ pub(crate) fn run_told(
     })
 }
 
+// The thread whose turn it was by which a property broke.
+fn teller_of(hub: &Hub, spot: Option<Spot>) -> Result<Option<Named>, AllocError>
+    ensures { IfOk result (IsTeller hub.now spot) }
+{
+    match spot {
+        Some(spot) => Ok(Some(who_is(hub, spot.thread.0)?)),
+        None => Ok(None),
+    }
+}
+
+// What is told of the properties that the run of this hub breaks.
+fn each_break_told(alloc: Global, hub: &Hub, breaks: &[Break]) -> Result<Vec<BreakTold>, AllocError>
+    ensures { IfOk result (λ told. AreEachBreakTold hub.now breaks.now told.items) }
+{
+    let mut told = Vec::new(alloc);
+    for one in breaks {
+        let who = teller_of(hub, one.spot)?;
+        told.push(BreakTold { one: *one, who })?;
+    }
+    Ok(told)
+}
+
+// Whether the run of this hub ended well, and what is told of the properties that it breaks.
+fn judgement_told(
+    alloc: Global,
+    asked: &Asked<'_>,
+    hub: &Hub,
+) -> Result<(bool, Vec<BreakTold>), AllocError>
+    ensures { IfOk result (λ told. IsJudgementTold asked.now hub.now told.0 told.1.items) }
+{
+    let judged = judge_hub(alloc, &asked.wanted, hub)?;
+    let well = is_well(fate_of(asked.servers, hub, judged.as_slice()));
+    let breaks = breaks_of(alloc, hub, judged.as_slice())?;
+    let told = each_break_told(alloc, hub, breaks.as_slice())?;
+    Ok((well, told))
+}
+
+// What is told of the run by a seed.
+#[derive(Drop)]
+struct SeedTold {
+    well: bool,
+    breaks: Vec<BreakTold>,
+    run: RunTold,
+}
+
 impl Script<'_> {
-    // Whether the run by this seed ended well, and what is told of it. It is made once more.
-    fn seed_told(&self, seed: u64) -> Result<(bool, RunTold), AllocError>
+    // What is told of the run of this hub.
+    fn hub_told(&self, hub: &Hub) -> Result<SeedTold, AllocError>
+        ensures judged { IfOk result (λ told. IsJudgementTold self.now.asked hub.now told.well told.breaks.items) }
+        ensures run { IfOk result (λ told. IsRunTold (map (λ own. own.items) self.now.places.now) hub.now told.run) }
+    {
+        let (well, breaks) = judgement_told(self.alloc, &self.asked, hub)?;
+        let run = run_told(self.alloc, self.places, hub)?;
+        Ok(SeedTold { well, breaks, run })
+    }
+
+    // Whether the run by this seed ended well, what it breaks, and what is told of it. It is made once more.
+    fn seed_told(&self, seed: u64) -> Result<SeedTold, AllocError>
         requires { IsBudget self.now.asked.budget }
-        ensures { IfOk result (λ told. IsSeedTold (map (λ own. own.items) self.now.places.now) self.now.program.now self.now.asked seed told.0 told.1) }
+        ensures { IfOk result (λ told. IsSeedTold (map (λ own. own.items) self.now.places.now) self.now.program.now self.now.asked seed told.well told.breaks.items told.run) }
     {
         let order = self.asked.orders.of(seed);
         let hub = seed_run(self.alloc, self.program, self.asked.budget, order, seed)?;
-        let well = is_well(fate_of(self.asked.servers, &hub));
-        let told = run_told(self.alloc, self.places, &hub);
+        let told = self.hub_told(&hub);
         let_go(hub);
-        Ok((well, told?))
+        told
     }
 
     // What is told of the class of this number.
@@ -132,10 +187,11 @@ impl Script<'_> {
     {
         let summary = classes.class(number).summary;
         let first = summary.first();
-        let (well, run) = self.seed_told(first)?;
+        let SeedTold { well, breaks, run } = self.seed_told(first)?;
         Ok(ClassTold {
             number,
             well,
+            breaks,
             runs: summary.runs(),
             outputs: summary.outputs(),
             first,

@@ -6,6 +6,7 @@ use crate::seed::Order;
 use cml_facts::ending::{Named, Stands};
 use cml_facts::fault::Reason;
 use cml_hub::End;
+use cml_judge::Break;
 use cml_phrase::Place;
 
 /// How a thread is left when a run has ended.
@@ -52,13 +53,24 @@ pub struct RunTold {
     pub threads: Vec<ThreadLeft>,
 }
 
+/// What is told of a property that a run breaks.
+#[derive(Drop)]
+pub struct BreakTold {
+    /// Which, and where.
+    pub one: Break,
+    /// The thread by a turn of which it breaks; none, at the end of the run.
+    pub who: Option<Named>,
+}
+
 /// What is told of a class of runs.
 #[derive(Drop)]
 pub struct ClassTold {
     /// Its number among the classes.
     pub number: usize,
-    /// Whether its first run ended well: nothing was left to do, no thread waits but servers, and none ended at a fault.
+    /// Whether its first run ended well: nothing was left to do, no thread waits but servers, none ended at a fault, and no property breaks.
     pub well: bool,
+    /// The properties that its first run breaks.
+    pub breaks: Vec<BreakTold>,
     /// How many runs it has.
     pub runs: u64,
     /// How many different outputs they have.

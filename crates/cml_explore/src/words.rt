@@ -6,11 +6,13 @@ use crate::fault_told::FaultTold;
 use crate::orders::Orders;
 use crate::seed::Order;
 use crate::stop_words::{push_count, push_stop};
-use crate::told::{ClassTold, RunTold, RunsTold, ThreadLeft, ThreadState};
-use cml_facts::ending::{Stands, push_awaited, push_many, push_named, push_number};
+use crate::told::{BreakTold, ClassTold, RunTold, RunsTold, ThreadLeft, ThreadState};
+use cml_facts::ending::{Named, Stands, push_awaited, push_many, push_named, push_number};
 use cml_facts::fault::push_reason;
 use cml_hub::End;
+use cml_judge::Spot;
 use cml_phrase::{Place, push_line};
+use cml_properties::Property;
 use cml_text::Sexpr;
 use std::alloc::{AllocError, Global};
 
@@ -253,18 +255,73 @@ fn push_threads(
     Ok(())
 }
 
-// Appends the lines of a class: its own, and those of the threads of its first run.
+// Appends where a property breaks: `line 4, printed by thread 2 consumer() at item 12`.
+fn push_spot(
+    alloc: Global,
+    out: &mut Vec<u8>,
+    forms: &[Sexpr],
+    line: usize,
+    spot: Spot,
+    who: Option<&Named>,
+) -> Result<(), AllocError> {
+    out.extend_from_slice(b"line ")?;
+    push_number(alloc, out, (line as u64).saturating_add(1))?;
+    if let Some(who) = who {
+        out.extend_from_slice(b", printed by ")?;
+        push_named(alloc, out, forms, who)?;
+    }
+    out.extend_from_slice(b" at item ")?;
+    push_number(alloc, out, spot.item as u64)
+}
+
+// Appends the line of a property that the first run of a class breaks.
+fn push_break(
+    alloc: Global,
+    out: &mut Vec<u8>,
+    forms: &[Sexpr],
+    properties: &[Property],
+    told: &BreakTold,
+) -> Result<(), AllocError> {
+    let Some(property) = properties.get(told.one.property) else {
+        return Ok(());
+    };
+    let begun = format!(in alloc; "       breaks {property}: ")?;
+    out.extend_from_slice(begun.as_bytes())?;
+    match told.one.spot {
+        Some(spot) => push_spot(alloc, out, forms, told.one.line, spot, told.who.as_ref())?,
+        None => out.extend_from_slice(b"at its end")?,
+    }
+    out.extend_from_slice(b"\n")
+}
+
+// Appends the lines of the properties that the first run of a class breaks.
+fn push_breaks(
+    alloc: Global,
+    out: &mut Vec<u8>,
+    forms: &[Sexpr],
+    properties: &[Property],
+    class: &ClassTold,
+) -> Result<(), AllocError> {
+    for told in &class.breaks {
+        push_break(alloc, out, forms, properties, told)?;
+    }
+    Ok(())
+}
+
+// Appends the lines of a class: its own, and those of the properties and of the threads of its first run.
 fn push_class(
     alloc: Global,
     out: &mut Vec<u8>,
     forms: &[Sexpr],
     servers: &[u32],
+    properties: &[Property],
     widths: Widths,
     class: &ClassTold,
 ) -> Result<(), AllocError> {
     push_end(alloc, out, widths, class)?;
     push_outputs(alloc, out, widths.outputs, class.outputs)?;
     push_first(alloc, out, class)?;
+    push_breaks(alloc, out, forms, properties, class)?;
     push_threads(alloc, out, forms, servers, &class.run)
 }
 
@@ -307,6 +364,7 @@ fn push_classes(
     alloc: Global,
     out: &mut Vec<u8>,
     forms: &[Sexpr],
+    properties: &[Property],
     told: &RunsTold,
     save: Option<&str>,
 ) -> Result<(), AllocError> {
@@ -314,7 +372,7 @@ fn push_classes(
     let widths = widths_of(alloc, told.classes.as_slice())?;
     let mut seen = Seen { bad: 0, good: 0 };
     for class in &told.classes {
-        push_class(alloc, out, forms, servers, widths, class)?;
+        push_class(alloc, out, forms, servers, properties, widths, class)?;
         if told.saves(class) {
             seen = and_one(seen, class.well);
             push_saved(alloc, out, save, class.well, seen)?;
@@ -356,7 +414,12 @@ fn bad_runs(classes: &[ClassTold]) -> u64 {
 }
 
 // Appends the verdict, and what it rests on.
-fn push_verdict(alloc: Global, out: &mut Vec<u8>, told: &RunsTold) -> Result<(), AllocError> {
+fn push_verdict(
+    alloc: Global,
+    out: &mut Vec<u8>,
+    properties: usize,
+    told: &RunsTold,
+) -> Result<(), AllocError> {
     let bad = bad_runs(told.classes.as_slice());
     if bad != 0 {
         out.extend_from_slice(b"bad: ")?;
@@ -368,6 +431,10 @@ fn push_verdict(alloc: Global, out: &mut Vec<u8>, told: &RunsTold) -> Result<(),
     out.extend_from_slice(b"good: ")?;
     push_many(alloc, out, " run", " runs", told.runs)?;
     push_orders(alloc, out, told.orders)?;
+    if properties != 0 {
+        out.extend_from_slice(b", each keeps ")?;
+        push_many(alloc, out, " property", " properties", properties as u64)?;
+    }
     out.extend_from_slice(b"; not all schedules (verify looks at all)\n")
 }
 
@@ -387,10 +454,10 @@ fn push_seeds(alloc: Global, out: &mut Vec<u8>, told: &RunsTold) -> Result<(), A
     }
 }
 
-/// Appends what is told of many runs of the script that has this name and forms: how many runs, and the classes of those that ended alike, each
-/// with the threads that are left in its first run or ended at a fault in it; which run is the first at which to stop, or that none is, where it was
-/// said at which; and last the verdict, and what it rests on. Where schedules are saved in files whose names begin so, each file is named below its
-/// class.
+/// Appends what is told of many runs of the script that has this name and forms, of which these properties are wanted: how many runs, and the
+/// classes of those that ended alike, each with the threads that are left in its first run or ended at a fault in it; which run is the first at which
+/// to stop, or that none is, where it was said at which; and last the verdict, and what it rests on. Where schedules are saved in files whose names
+/// begin so, each file is named below its class.
 ///
 /// # Errors
 /// Out of memory.
@@ -399,6 +466,7 @@ pub fn write_runs(
     out: &mut Vec<u8>,
     name: &str,
     forms: &[Sexpr],
+    properties: &[Property],
     told: &RunsTold,
     save: Option<&str>,
 ) -> Result<(), AllocError> {
@@ -409,9 +477,9 @@ pub fn write_runs(
     out.extend_from_slice(b",")?;
     push_orders(alloc, out, told.orders)?;
     out.extend_from_slice(b"\n")?;
-    push_classes(alloc, out, forms, told, save)?;
+    push_classes(alloc, out, forms, properties, told, save)?;
     push_stop(alloc, out, told, save.is_some())?;
-    push_verdict(alloc, out, told)
+    push_verdict(alloc, out, properties.len(), told)
 }
 
 // How wide the column of ends is: as wide as what is widest in it.
@@ -467,7 +535,7 @@ fn fault_line(alloc: Global, forms: &[Sexpr], fault: &FaultTold) -> Result<Vec<u
     let mut line = Vec::new(alloc);
     for left in &fault.run.threads {
         if fault.thread == Some(left.thread.thread) {
-            push_thread(alloc, &mut line, forms, left)?;
+            push_thread(alloc, &mut line, forms, &[], left)?;
         }
     }
     Ok(line)

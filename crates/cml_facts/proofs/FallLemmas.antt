@@ -15,7 +15,7 @@ use Rattle.cml_facts.proofs.FailureLemmas.{counted}
 use Rattle.std.specs.declared.alloc.Global.{Global}
 use Rattle.cml_hub.specs.Kept.{Kept}
 use Rattle.cml_facts.specs.declared.fault.detail.Detail.{Detail}
-use Rattle.cml_facts.specs.Details.{details_with, AreDetails}
+use Rattle.cml_facts.specs.Details.{details_with, AreDetails, fallen_details, AreFallenDetails}
 use Rattle.cml_facts.specs.Falls.{PlainFall, failure_if_of, failure_of_thread, IsFall, IsFallOf, AreFalls}
 
 -- one failure more
@@ -81,3 +81,9 @@ pub details_so : {E : Type 0} (r : Result (Vec Detail Global) E) (h : Kept) (fal
     → IfOk r (λ ds. ds.items ≡ details_with h falls) → IfOk r (λ ds. AreDetails h ds.items)
 details_so (Ok ds) h falls are is = record { falls = falls; are = are; details_are = is }
 details_so (Err e) h falls are is = tt
+
+-- those of its threads that ended at faults
+pub fallen_so : {E : Type 0} (r : Result (Vec Detail Global) E) (h : Kept) (falls : ℕ → Option PlainFall) → AreFalls h.course.program h.course.items falls
+    → IfOk r (λ ds. ds.items ≡ fallen_details h.course falls 0 h.course.world.threads) → IfOk r (λ ds. AreFallenDetails h ds.items)
+fallen_so (Ok ds) h falls are is = record { falls = falls; are = are; details_are = is }
+fallen_so (Err e) h falls are is = tt

@@ -114,6 +114,16 @@ pub record AreDetails (h : Kept) (ds : List Detail) : Type 0 where
   pub are : AreFalls h.course.program h.course.items falls
   pub details_are : ds ≡ details_with h falls
 
+-- of the threads that ended at faults alone, how each did
+abbrev pub fallen_details : PlainCourse → (ℕ → Option PlainFall) → ℕ → List PlainThread → List Detail
+fallen_details c falls t [] = []
+fallen_details c falls t (thread ∷ threads) = fall_details c t (falls t) ++ fallen_details c falls (suc t) threads
+
+pub record AreFallenDetails (h : Kept) (ds : List Detail) : Type 0 where
+  pub falls : ℕ → Option PlainFall
+  pub are : AreFalls h.course.program h.course.items falls
+  pub details_are : ds ≡ fallen_details h.course falls 0 h.course.world.threads
+
 -- the two details are the same one, with the same numbers
 abbrev pub same_detail : Detail → Detail → Bool
 same_detail = derived.ghosts.eq

@@ -17,7 +17,7 @@ mod why;
 mod words;
 
 pub use detail::Detail;
-pub use details::details_of;
+pub use details::{details_of, fallen_details_of};
 pub use fact::ThreadFault;
 pub use failed::failed_by;
 pub use fall::{Fall, Falls, Retold, falls_of, retell};

@@ -1,26 +1,29 @@
 -- Runs that were closed, and what a schedule led to.
-use Rattle.std.proofs.Common.{◌≡◌, ◌∙◌, ◌&&◌, ◌||◌, ◌++◌, ◌∷◌, ℕ, Bool, true, false, List, [], Option, Some, None, Vec, is_some, map, Result, Ok, Err, IfOk, IfErr, ap, inl, inr, refl, subst, sym}
+use Rattle.std.proofs.Common.{◌≡◌, ◌∙◌, ◌&&◌, ◌||◌, ◌++◌, ◌∷◌, not, if◌then◌else◌, ℕ, Bool, true, false, List, [], length, Option, Some, None, Vec, is_some, map}
+use Rattle.std.proofs.Common.{Result, Ok, Err, IfOk, IfErr, OnOk, ap, inl, inr, refl, subst, sym, arith}
+use Rattle.std.specs.Prelude.{◌==◌}
+use Rattle.std.proofs.lemmas.Bool.Decides.{nat_tests}
 use Rattle.std.specs.declared.alloc.Global.{Global}
 use Rattle.cml_check.specs.Sizes.{size_of}
 use Rattle.cml_check.specs.Syntax.{PlainItem}
 use Rattle.cml_hub.specs.Courses.{run_of}
 use Rattle.cml_hub.specs.Kept.{Kept, IsAtStart}
+use Rattle.cml_hub.specs.Runs.{ending}
+use Rattle.cml_judge.specs.Judgements.{IsJudgedAlone, are_all_kept}
+use Rattle.cml_properties.specs.declared.property.Property.{Property}
 use Rattle.cml_schedule.specs.Written.{schedule_text}
 use Rattle.cml_schedule.specs.declared.item.Item.{Item}
 use Rattle.cml_arguments.specs.declared.ReplayOptions.{ReplayOptions}
 use Rattle.cml_host.specs.Behind.{RepliesAfter}
-use Rattle.cml_host.specs.Closed.{PlainAsked, IsClosed, IsClosing, IsHubAt, MaySay, closing_status, plain_asked, schedule_file}
-use Rattle.cml_host.specs.Replaying.{IsHubOf, IsReplayReply, ReplayTold, ScheduleOutcome, ScriptReplayed, replay_asked}
-use Rattle.cml_host.specs.Replies.{File, IsCarriedOut, Moment, Passage, behind, broken, file, plain_file, plain_of, plain_refusal, plain_reply, since, upto}
+use Rattle.cml_host.specs.Closed.{PlainAsked, IsClosed, IsClosing, IsHubAt, MaySay, closing_status, is_asked, is_unwell, schedule_file}
+use Rattle.cml_host.specs.Replaying.{IsHubOf, IsReplayReply, ReplayTold, ScheduleOutcome, ScriptReplayed, replay_asked, saves_nothing}
+use Rattle.cml_host.specs.Running.{IsTold}
+use Rattle.cml_host.specs.Replies.{File, IsCarriedOut, Moment, Passage, Replies, behind, broken, file, plain_file, plain_of, since, upto}
 use Rattle.cml_host.specs.Servers.{first_unknown, server_numbers, server_names}
 use Rattle.cml_host.specs.Scripts.{PlainScript}
 use Rattle.cml_host.specs.Stores.{Content, Shelf}
-use Rattle.cml_host.specs.Told.{IsRunOf, AllReported, AreCut, AreTold, whole_output}
-use Rattle.cml_host.specs.declared.close.Asked.{Asked}
+use Rattle.cml_host.specs.Told.{IsRunOf, AllReported, AreCut, AreTold, end_status, whole_output}
 use Rattle.cml_host.specs.declared.close.Closing.{Closing}
-use Rattle.cml_host.specs.declared.close.Subject.{Subject}
-use Rattle.cml_host.specs.declared.refusal.Refusal.{Refusal}
-use Rattle.cml_host.specs.declared.refusal.Refusal.TheVariants.{Memory}
 use Rattle.cml_host.specs.declared.reply.File as code
 use Rattle.cml_host.specs.declared.reply.Reply.{Reply}
 
@@ -38,16 +41,18 @@ kept_for : (explains draws kept : Bool) → kept ≡ explains || draws → expla
 kept_for true draws kept is = is
 kept_for false draws kept is = refl
 
-abbrev asks_of : Bool → Bool → List ℕ → PlainAsked
-asks_of explains strict servers = record { explains = explains; strict = strict; servers = servers }
+abbrev asks_of : Bool → Bool → List ℕ → List Property → Bool → PlainAsked
+asks_of explains strict servers properties stops = record { explains = explains; strict = strict; servers = servers; properties = properties; stops = stops }
 
 -- the end is explained, since the script is kept for it
-pub asked_so : (explains draws kept strict : Bool) (servers : List ℕ) → kept ≡ explains || draws → asks_of (explains && kept) strict servers ≡ asks_of explains strict servers
-asked_so explains draws kept strict servers is = ap (λ (e : Bool). asks_of e strict servers) (kept_for explains draws kept is)
+pub asked_so : (explains draws kept strict : Bool) (servers : List ℕ) (properties : List Property) (stops : Bool) → kept ≡ explains || draws
+    → asks_of (explains && kept) strict servers properties stops ≡ asks_of explains strict servers properties stops
+asked_so explains draws kept strict servers properties stops is = ap (λ (e : Bool). asks_of e strict servers properties stops) (kept_for explains draws kept is)
 
-and_true : (e : Bool) → e ≡ e && true
-and_true true = refl
-and_true false = refl
+-- some are asked for where they are not none
+pub asked_some : (properties : List Property) → not (length properties == 0) ≡ is_asked properties
+asked_some [] = refl
+asked_some (p ∷ properties) = let some : (length (p ∷ properties) == 0) ≡ false = grind (arith, nat_tests) in ap not some
 
 may_nothing : (explains : Bool) → MaySay explains []
 may_nothing true = tt
@@ -61,20 +66,37 @@ may_any explains (Err e) so = tt
 pub may_none : (explains : Bool) (words : Vec ℕ Global) → words.items ≡ [] → MaySay explains words.items
 may_none explains words none = subst (MaySay explains) (sym none) (may_nothing explains)
 
--- a run of a script that is kept was closed
-pub closing_kept : {E : Type 0} (r : Result Closing E) (a : Asked) (h : Kept) (s : Subject) (status : ℕ) → a.subject ≡ Some s → status ≡ closing_status (plain_asked a) h →
-    IfOk r (λ closing. (closing.status ≡ status) × MaySay a.explains closing.words.items) → IfOk r (IsClosing (plain_asked a) h)
-closing_kept (Ok closing) a h s status kept is made =
-    record {
-      status = made.0 ∙ is;
-      words = subst (λ (b : Bool). MaySay b closing.words.items) (and_true a.explains ∙ ap (λ (b : Bool). a.explains && b) (sym (ap is_some kept))) made.1;
-    }
-closing_kept (Err e) a h s status kept is made = tt
+-- what is said of properties and of the end, one behind the other
+pub said_so : (explains : Bool) (properties : List Property) (first more all : List ℕ) → (is_asked properties ≡ false → first ≡ []) → MaySay explains more → all ≡ first ++ more
+    → MaySay (explains || is_asked properties) all
+said_so true properties first more all none say is = tt
+said_so false [] first more all none say is = is ∙ (ap (λ l. l ++ more) (none refl) ∙ say)
+said_so false (p ∷ properties) first more all none say is = tt
 
--- the same of one that is not kept
-pub closing_alone : (a : Asked) (h : Kept) (closing : Closing) → closing.status ≡ closing_status (plain_asked a) h → closing.words.items ≡ [] → IsClosing (plain_asked a) h closing
-closing_alone a h closing is none =
-    record { status = is; words = subst (λ (ts : List ℕ). MaySay (a.explains && is_some a.subject) ts) (sym none) (may_nothing (a.explains && is_some a.subject)) }
+-- nothing is said where nothing is asked for
+pub none_or : {A E : Type 0} (r : Result A E) (properties : List Property) (old new : List ℕ) → (length properties == 0) ≡ false → OnOk r (is_asked properties ≡ false → new ≡ old)
+none_or (Ok x) [] old new some = λ none. cc
+none_or (Ok x) (p ∷ properties) old new some = λ none. cc
+none_or (Err e) properties old new some = tt
+
+-- the status is 6, or that of the end
+pub status_bad : (asked : PlainAsked) (h : Kept) (kept unwell : Bool) → unwell ≡ is_unwell asked h kept → unwell ≡ true → 6 ≡ closing_status asked h kept
+status_bad asked h kept unwell is so = sym (ap (λ (b : Bool). if b then 6 else end_status (ending h.budget (run_of h.course))) (sym is ∙ so))
+
+pub status_fine : (asked : PlainAsked) (h : Kept) (kept unwell : Bool) (n : ℕ) → unwell ≡ is_unwell asked h kept → unwell ≡ false → n ≡ end_status (ending h.budget (run_of h.course))
+    → n ≡ closing_status asked h kept
+status_fine asked h kept unwell n is so end = end ∙ sym (ap (λ (b : Bool). if b then 6 else end_status (ending h.budget (run_of h.course))) (sym is ∙ so))
+
+-- a run was closed, and was judged so
+pub closing_so : (asked : PlainAsked) (h : Kept) (properties : List Property) (judged slice : List (Option ℕ)) (kept : Bool) (closing : Closing) → properties ≡ asked.properties
+    → IsJudgedAlone properties h judged → slice ≡ judged → kept ≡ are_all_kept slice → closing.status ≡ closing_status asked h kept
+    → MaySay (asked.explains || is_asked asked.properties) closing.words.items → IsClosing asked h closing
+closing_so asked h properties judged slice kept closing wanted so same is status words = (
+  judged,
+  subst (λ (ps : List Property). IsJudgedAlone ps h judged) wanted so,
+  words,
+  status ∙ ap (closing_status asked h) (is ∙ ap are_all_kept same),
+)
 
 -- ---- the end of a run
 
@@ -89,7 +111,18 @@ pub closed_as : (asked : PlainAsked) (save_as : Option (List ℕ)) (h : Kept) (c
     reply.words ≡ closing.words → reply.status ≡ closing.status →
     IsClosed asked save_as h.course.program h.course.items h.budget (run_of h.course) (behind h.course.output (plain_of reply))
 closed_as asked save_as h closing reply whole files closes words status =
-    (h, stands_itself h, whole, files, subst (λ (ts : Vec ℕ Global). MaySay asked.explains ts.items) (sym words) closes.words, status ∙ closes.status)
+    (
+      h,
+      stands_itself h,
+      whole,
+      files,
+      (
+        closes.0,
+        closes.1,
+        subst (λ (ts : Vec ℕ Global). MaySay (asked.explains || is_asked asked.properties) ts.items) (sym words) closes.2,
+        status ∙ closes.3,
+      ),
+    )
 
 -- the schedule is saved as the one file
 pub one_scheduled : {E : Type 0} (r : Result (Vec code.File Global) E) (f : code.File) (explains : Bool) (save_as : Option (List ℕ)) (name bytes schedule : List ℕ) →
@@ -131,14 +164,11 @@ scheduled asked p watch name content h output errors store status (plan, fits, m
       ),
     )
 
--- how it is closed was told, or that memory ran out, behind the reports
-pub replay_told : (asked : PlainAsked) (h : Kept) (made : Result Reply Refusal) (output errors : Passage) (mid : Moment) (store : Shelf) (status : ℕ) →
+-- what is told of it was told behind the reports
+pub replay_told : (asked : PlainAsked) (h : Kept) (output errors : Passage) (mid : Moment) (store : Shelf) (status : ℕ) →
     IsRunOf h.course.program h.watch h.course.items h.reports (run_of h.course) → AreTold h.reports (upto mid errors) →
-    IfOk made (λ reply. IsClosed asked None h.course.program h.course.items h.budget (run_of h.course) (behind h.course.output (plain_of reply))) → IfErr made (λ why. why ≡ Memory) →
-    IsCarriedOut (plain_reply h.course.output made) output (since mid errors) store status → ReplayTold asked h output errors store status
-replay_told asked h (Ok reply) output errors mid store status run told closed none carried = (run, (mid, _, inl (told, inl closed), carried))
-replay_told asked h (Err why) output errors mid store status run told none memory carried =
-    (run, (mid, _, inl (told, inr (ap (plain_refusal h.course.output) memory)), carried))
+    Replies (IsTold asked saves_nothing h) output (since mid errors) store status → ReplayTold asked h output errors store status
+replay_told asked h output errors mid store status run told ended = (run, (mid, ended.0, inl (told, ended.1), ended.2))
 
 -- or that a write of them failed
 pub replay_cut : (asked : PlainAsked) (h : Kept) (output errors : Passage) (mid : Moment) (store : Shelf) (status : ℕ) →
@@ -147,12 +177,13 @@ pub replay_cut : (asked : PlainAsked) (h : Kept) (output errors : Passage) (mid 
 replay_cut asked h output errors mid store status run cut carried = (run, (mid, _, inr (cut, refl), carried))
 
 -- the script was run by the schedule, with the numbers of its servers
-pub replayed : (explains : Bool) (s : PlainScript) (options : ReplayOptions) (servers : List ℕ) (asked : PlainAsked) (p : List (PlainItem ℕ)) (content : Content)
+pub replayed : (explains : Bool) (s : PlainScript) (properties : List Property) (options : ReplayOptions) (servers : List ℕ) (asked : PlainAsked) (p : List (PlainItem ℕ)) (content : Content)
     (output errors : Passage) (store : Shelf) (status : ℕ) → first_unknown s (server_names options.end) ≡ None → servers ≡ server_numbers s (server_names options.end) → p ≡ s.program →
-    asked ≡ record { explains = explains; strict = options.end.strict; servers = servers } →
-    ScheduleOutcome asked p options.watch options.schedule.now content output errors store status → ScriptReplayed explains s options content output errors store status
-replayed explains s options servers asked p content output errors store status known numbered program same ran =
-    let asks : asked ≡ replay_asked options explains s = same ∙ ap (λ (ns : List ℕ). record { explains = explains; strict = options.end.strict; servers = ns }) numbered in
+    asked ≡ record { explains = explains; strict = options.end.strict; servers = servers; properties = properties; stops = options.stop } →
+    ScheduleOutcome asked p options.watch options.schedule.now content output errors store status → ScriptReplayed explains s properties options content output errors store status
+replayed explains s properties options servers asked p content output errors store status known numbered program same ran =
+    let asks : asked ≡ replay_asked options explains s properties =
+    same ∙ ap (λ (ns : List ℕ). record { explains = explains; strict = options.end.strict; servers = ns; properties = properties; stops = options.stop }) numbered in
     inl (
       known,
       subst (λ (a : PlainAsked). ScheduleOutcome a s.program options.watch options.schedule.now content output errors store status) asks

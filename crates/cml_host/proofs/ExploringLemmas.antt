@@ -118,38 +118,42 @@ saved_on s told i c d within is =
     ∙ (ap (λ (x : ClassTold). filter s (x ∷ drop (suc i) told)) (sym is) ∙ ap (λ (n : ℕ). filter s (c ∷ drop n told)) (sym (add-one i)))
 
 saved_first : (s : ClassTold → Bool) (c : ClassTold) (cs : List ClassTold) → s c ≡ true → filter s (c ∷ cs) ≡ c ∷ filter s cs
-saved_first s c cs yes = rw yes refl
+saved_first s c cs saved = rw saved refl
 
 unsaved_first : (s : ClassTold → Bool) (c : ClassTold) (cs : List ClassTold) → s c ≡ false → filter s (c ∷ cs) ≡ filter s cs
-unsaved_first s c cs no = rw no refl
+unsaved_first s c cs unsaved = rw unsaved refl
 
 files_on : (s : ClassTold → Bool) (start : Name) (budget : ℕ) (p : List (PlainItem ℕ)) (classes : List PlainClass) (seen : Seen) (told : List ClassTold) (i : ℕ) (c d : ClassTold)
     → i < length told → c ≡ get_or told i d → s c ≡ true
     → files_behind start budget p classes seen (filter s (drop i told))
     ≡ file_told start budget p classes (and_one seen c.well) c ∷ files_behind start budget p classes (and_one seen c.well) (filter s (drop (i + 1) told))
-files_on s start budget p classes seen told i c d within is yes =
-    ap (files_behind start budget p classes seen) (saved_on s told i c d within is ∙ saved_first s c (drop (i + 1) told) yes)
+files_on s start budget p classes seen told i c d within is saved =
+    ap (files_behind start budget p classes seen) (saved_on s told i c d within is ∙ saved_first s c (drop (i + 1) told) saved)
 
 -- one file more
-pub told_next : (s : ClassTold → Bool) (start : Name) (budget : ℕ) (p : List (PlainItem ℕ)) (classes : List PlainClass) (seen : Seen) (told : List ClassTold) (i : ℕ) (c d : ClassTold)
-    (files : List code.File) (f : code.File) (all : List code.File) (whole : List File) → i < length told → c ≡ get_or told i d → s c ≡ true
-    → plain_file f ≡ file_told start budget p classes (and_one seen c.well) c → all ≡ files ++ f ∷ []
+pub told_next : (s : ClassTold → Bool) (start : Name) (budget : ℕ) (p : List (PlainItem ℕ)) (classes : List PlainClass) (seen now : Seen) (told : List ClassTold) (i : ℕ)
+    (c d : ClassTold) (files : List code.File) (f : code.File) (all : List code.File) (whole : List File) → i < length told → c ≡ get_or told i d → s c ≡ true
+    → now ≡ and_one seen c.well → plain_file f ≡ file_told start budget p classes now c → all ≡ files ++ f ∷ []
     → map plain_file files ++ files_behind start budget p classes seen (filter s (drop i told)) ≡ whole
-    → map plain_file all ++ files_behind start budget p classes (and_one seen c.well) (filter s (drop (i + 1) told)) ≡ whole
-told_next s start budget p classes seen told i c d files f all whole within is yes made more so_far =
-    let rest : List File = files_behind start budget p classes (and_one seen c.well) (filter s (drop (i + 1) told)) in
-    ap (λ (xs : List code.File). map plain_file xs ++ rest) more ∙ (ap (λ (xs : List File). xs ++ rest) (map-append plain_file files (f ∷ []))
-    ∙ (append_assoc (map plain_file files) (plain_file f ∷ []) rest ∙ (ap (λ (g : File). map plain_file files ++ g ∷ rest) made
-    ∙ (ap (λ (xs : List File). map plain_file files ++ xs) (sym (files_on s start budget p classes seen told i c d within is yes)) ∙ so_far))))
+    → map plain_file all ++ files_behind start budget p classes now (filter s (drop (i + 1) told)) ≡ whole
+told_next s start budget p classes seen now told i c d files f all whole within is saved more_seen made more so_far =
+    let rest : Seen → List File = λ (k : Seen). files_behind start budget p classes k (filter s (drop (i + 1) told)) in
+    let this : plain_file f ∷ rest now ≡ file_told start budget p classes (and_one seen c.well) c ∷ rest (and_one seen c.well) =
+    ap (λ (g : File). g ∷ rest now) made ∙ ap (λ (k : Seen). file_told start budget p classes k c ∷ rest k) more_seen in
+    ap (λ (xs : List code.File). map plain_file xs ++ rest now) more ∙ (ap (λ (xs : List File). xs ++ rest now) (map-append plain_file files (f ∷ []))
+    ∙ (append_assoc (map plain_file files) (plain_file f ∷ []) (rest now)
+    ∙ (ap (λ (xs : List File). map plain_file files ++ xs) (this ∙ sym (files_on s start budget p classes seen told i c d within is saved)) ∙ so_far)))
 
 -- one class that is not saved
-pub told_past : (s : ClassTold → Bool) (start : Name) (budget : ℕ) (p : List (PlainItem ℕ)) (classes : List PlainClass) (seen : Seen) (told : List ClassTold) (i : ℕ) (c d : ClassTold)
-    (files whole : List File) → i < length told → c ≡ get_or told i d → s c ≡ false
-    → files ++ files_behind start budget p classes seen (filter s (drop i told)) ≡ whole
-    → files ++ files_behind start budget p classes seen (filter s (drop (i + 1) told)) ≡ whole
-told_past s start budget p classes seen told i c d files whole within is no so_far =
-    ap (λ (cs : List ClassTold). files ++ files_behind start budget p classes seen cs)
-    (sym (saved_on s told i c d within is ∙ unsaved_first s c (drop (i + 1) told) no)) ∙ so_far
+pub told_past : (s : ClassTold → Bool) (start : Name) (budget : ℕ) (p : List (PlainItem ℕ)) (classes : List PlainClass) (seen now : Seen) (told : List ClassTold) (i : ℕ)
+    (c d : ClassTold) (files all : List code.File) (whole : List File) → i < length told → c ≡ get_or told i d → s c ≡ false → now ≡ seen → all ≡ files
+    → map plain_file files ++ files_behind start budget p classes seen (filter s (drop i told)) ≡ whole
+    → map plain_file all ++ files_behind start budget p classes now (filter s (drop (i + 1) told)) ≡ whole
+told_past s start budget p classes seen now told i c d files all whole within is unsaved same_seen same so_far =
+    ap (λ (k : Seen). map plain_file all ++ files_behind start budget p classes k (filter s (drop (i + 1) told))) same_seen
+    ∙ (ap (λ (xs : List code.File). map plain_file xs ++ files_behind start budget p classes seen (filter s (drop (i + 1) told))) same
+    ∙ (ap (λ (cs : List ClassTold). map plain_file files ++ files_behind start budget p classes seen cs)
+    (sym (saved_on s told i c d within is ∙ unsaved_first s c (drop (i + 1) told) unsaved)) ∙ so_far))
 
 -- no more of them
 pub told_all : (s : ClassTold → Bool) (start : Name) (budget : ℕ) (p : List (PlainItem ℕ)) (classes : List PlainClass) (seen : Seen) (told : List ClassTold) (i : ℕ)
@@ -160,9 +164,9 @@ told_all s start budget p classes seen told i files whole past so_far =
     ∙ (ap (λ (cs : List ClassTold). map plain_file files ++ files_behind start budget p classes seen (filter s cs)) (sym (drop_all i told past)) ∙ so_far)
 
 -- one class more
-pub seen_few : (seen : Seen) (well : Bool) (i : ℕ) → seen.bad ≤ i → seen.good ≤ i → ((and_one seen well).bad ≤ i + 1) × ((and_one seen well).good ≤ i + 1)
-seen_few seen true i bad good = (omega (arith, bad), omega (arith, good))
-seen_few seen false i bad good = (omega (arith, bad), omega (arith, good))
+pub seen_few : (seen now : Seen) (well : Bool) (i : ℕ) → now ≡ and_one seen well → seen.bad ≤ i → seen.good ≤ i → (now.bad ≤ i + 1) × (now.good ≤ i + 1)
+seen_few seen now true i is bad good = (omega (arith, ap (λ (k : Seen). k.bad) is, bad), omega (arith, ap (λ (k : Seen). k.good) is, good))
+seen_few seen now false i is bad good = (omega (arith, ap (λ (k : Seen). k.bad) is, bad), omega (arith, ap (λ (k : Seen). k.good) is, good))
 
 -- the numbers of the classes that were told are theirs
 pub told_below : (places : List (List Place)) (p : List (PlainItem ℕ)) (asked : Asked) (made : PlainExplored) (told : RunsTold) → IsToldOfRuns places p asked made told

@@ -3,6 +3,7 @@ mod ReplyLemmas
 mod WriteLemmas
 mod RefusedLemmas
 mod TextLemmas
+mod WantedLemmas
 mod PlanLemmas
 mod TellLemmas
 mod BudgetLemmas

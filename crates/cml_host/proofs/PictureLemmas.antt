@@ -123,13 +123,13 @@ always true = refl
 always false = refl
 
 -- a picture that the arguments ask for is saved, since the script is kept for it
-pub saving_asked : (options : RunOptions) (explains draws kept : Bool) → draws ≡ is_some options.draw → kept ≡ explains || draws →
+pub saving_asked : (options : RunOptions) (explains draws others kept : Bool) → draws ≡ is_some options.draw → kept ≡ explains || (draws || others) →
     record { schedule = option_map (λ name. name.now) options.record; picture = wanted_of (option_map (λ name. name.now) options.draw) kept } ≡ saving_of options
-saving_asked options explains draws kept asks is =
+saving_asked options explains draws others kept asks is =
     ap (λ (w : Option (List ℕ)). record { schedule = option_map (λ name. name.now) options.record; picture = w }) (go options.draw asks kept is)
   where
-    go : (o : Option (Bor (List ℕ))) → draws ≡ is_some o → (k : Bool) → k ≡ explains || draws →
+    go : (o : Option (Bor (List ℕ))) → draws ≡ is_some o → (k : Bool) → k ≡ explains || (draws || others) →
         wanted_of (option_map (λ name. name.now) o) k ≡ option_map (λ name. name.now) o
     go o asks true is = refl
     go None asks false is = refl
-    go (Some name) asks false is = absurd (true≢false (sym (is ∙ (ap (λ (b : Bool). explains || b) asks ∙ always explains))))
+    go (Some name) asks false is = absurd (true≢false (sym (is ∙ (ap (λ (b : Bool). explains || (b || others)) asks ∙ always explains))))

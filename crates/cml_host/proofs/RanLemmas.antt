@@ -1,5 +1,5 @@
 -- What a command did, by what it told of the hub that it had.
-use Rattle.std.proofs.Common.{◌≡◌, ◌∙◌, ◌⊎◌, ℕ, Bool, List, [], ◌++◌, true, Option, Some, None, Result, Ok, Err, IfOk, IfErr, ap, inl, inr, refl, subst, sym}
+use Rattle.std.proofs.Common.{◌≡◌, ◌∙◌, ◌⊎◌, ℕ, Bool, List, [], ◌++◌, true, false, MatchBool, Option, Some, None, Result, Ok, Err, IfOk, IfErr, ap, inl, inr, refl, subst, sym}
 use Rattle.cml_check.specs.Syntax.{PlainItem}
 use Rattle.cml_hub.specs.Choices.{seeded}
 use Rattle.cml_host.specs.Chosen.{by_first, by_words}
@@ -9,6 +9,8 @@ use Rattle.cml_hub.proofs.Going.{each_from}
 use Rattle.cml_hub.specs.Playing.{Rules, Played, played, playing, called_back}
 use Rattle.cml_hub.proofs.Played.{begins_run}
 use Rattle.cml_hub.specs.Runs.{over, stands}
+use Rattle.cml_judge.specs.Stops.{IsStoppedThere, IsToldUpTo}
+use Rattle.cml_properties.specs.declared.property.Property.{Property}
 use Rattle.cml_step.specs.Calls.{text_of}
 use Rattle.cml_schedule.specs.declared.item.Item.{Item}
 use Rattle.cml_stream.specs.Streams.{stream, counted_stream}
@@ -21,8 +23,9 @@ use Rattle.cml_host.specs.declared.workers.Cause.{Cause}
 use Rattle.cml_host.specs.declared.workers.Cause.TheVariants as cause
 use Rattle.cml_host.specs.declared.workers.Stopped.{Stopped}
 use Rattle.cml_host.specs.Closed.{PlainAsked}
-use Rattle.cml_host.specs.Replies.{IsCarriedOut, Moment, Passage, PlainReply, behind, plain_of, plain_refusal, plain_reply, runs_out, since, upto}
-use Rattle.cml_host.specs.Running.{AreToldBy, BegunOutcome, HasEnded, IsChosen, IsEnded, IsEndReply, IsRunBy, IsRunReply, IsStopped, PlainSaving, Plays, PlaysChosen, ProgramOutcome}
+use Rattle.cml_host.specs.Replies.{IsCarriedOut, Moment, Passage, PlainReply, Replies, behind, plain_of, plain_refusal, plain_reply, runs_out, since, upto}
+use Rattle.cml_host.specs.Running.{AreToldBy, BegunOutcome, EndsTold, HasEnded, IsChosen, IsEnded, IsEndReply, IsRunBy, IsRunReply, IsStopped, IsTold}
+use Rattle.cml_host.specs.Running.{MemoryRanOut, PlainSaving, Plays, PlaysChosen, ProgramOutcome}
 use Rattle.cml_host.specs.Running.{RunsSo, ScriptOutcome, SomehowOutcome, failed_by, run_asked, saving_of, stop_reply}
 use Rattle.cml_host.specs.Orders.{order_said}
 use Rattle.cml_explore.specs.declared.seed.order.Order.{Order}
@@ -57,14 +60,58 @@ chosen_from : (p : List (PlainItem ℕ)) (budget : ℕ) (seed watch : Option ℕ
 chosen_from p budget None watch begun h begins leads plays = (plays.0, played_from by_first plays.0 p budget watch begun h begins leads plays.1)
 chosen_from p budget (Some seed) watch begun h begins leads plays = played_from by_words (seeded seed) p budget watch begun h begins leads plays
 
--- its end was told, or that memory ran out, behind the reports
-pub ended_ran : (asked : PlainAsked) (saving : PlainSaving) (p : List (PlainItem ℕ)) (options : RunOptions) (begun h : Kept) (made : Result Reply Refusal) (output errors : Passage)
+-- ---- where a run is told
+
+-- as far as this other hub has gone, which stands where its own run leads
+pub told_there : (asked : PlainAsked) (saving : PlainSaving) (h other : Kept) (reply : PlainReply)
+    → IsToldUpTo asked.stops asked.properties (text_of h.course.program) h.course.items other.course.items
+    → other.course.program ≡ h.course.program → other.budget ≡ h.budget → stands (text_of other.course.program) other.course.items ≡ Some (run_of other.course)
+    → IsEnded asked saving other reply ⊎ (reply ≡ runs_out other.course.output) → IsTold asked saving h reply
+told_there asked saving h other reply upto_there program budget leads (inl ended) =
+    let r = run_of other.course in
+    let ts = other.course.items in
+    inl (
+      ts,
+      r,
+      upto_there,
+      subst (λ (q : List (PlainItem ℕ)). stands (text_of q) ts ≡ Some r) program leads,
+      subst (λ (b : ℕ). IsEndReply asked saving h.course.program ts b r reply) budget
+          (subst (λ (q : List (PlainItem ℕ)). IsEndReply asked saving q ts other.budget r reply) program ended),
+    )
+told_there asked saving h other reply upto_there program budget leads (inr memory) =
+    let r = run_of other.course in
+    let ts = other.course.items in
+    inr (inr (ts, r, upto_there, subst (λ (q : List (PlainItem ℕ)). stands (text_of q) ts ≡ Some r) program leads, memory))
+
+-- where it is to stop, and does
+pub stops_there : (b : Bool) (properties : List Property) (h other : Kept) → MatchBool b (IsStoppedThere properties h (Some other)) (Some other ≡ None)
+    → IsToldUpTo b properties (text_of h.course.program) h.course.items other.course.items × (other.course.program ≡ h.course.program) × (other.budget ≡ h.budget)
+stops_there true properties h other is = ((Some is.0, is.1.stops, is.1.items), is.1.program, is.1.budget)
+stops_there false properties h other is = cc
+
+-- to its end
+pub stops_nowhere : (b : Bool) (properties : List Property) (h : Kept) (left : Option Kept) → MatchBool b (IsStoppedThere properties h None) (left ≡ None)
+    → IsToldUpTo b properties (text_of h.course.program) h.course.items h.course.items
+stops_nowhere true properties h left is = (None, is, refl)
+stops_nowhere false properties h left is = refl
+
+-- its end was told, or that memory ran out
+pub whole_told : (asked : PlainAsked) (saving : PlainSaving) (h : Kept) (made : Result Reply Refusal) → IfOk made (λ r. IsEnded asked saving h (behind h.course.output (plain_of r)))
+    → IfErr made (λ why. why ≡ Memory) → IsEnded asked saving h (plain_reply h.course.output made) ⊎ (plain_reply h.course.output made ≡ runs_out h.course.output)
+whole_told asked saving h (Ok r) ok err = inl ok
+whole_told asked saving h (Err why) ok err = inr (ap (plain_refusal h.course.output) err)
+
+-- memory ran out before it was known where it stops
+pub lost : (asked : PlainAsked) (saving : PlainSaving) (h : Kept) → IsTold asked saving h (runs_out h.course.output)
+lost asked saving h = inr (inl refl)
+
+-- the run was told behind the reports
+pub ended_ran : (asked : PlainAsked) (saving : PlainSaving) (p : List (PlainItem ℕ)) (options : RunOptions) (begun h : Kept) (output errors : Passage)
     (mid : Moment) (store : Shelf) (status : ℕ) → IsAtStart p options.steps options.watch begun →
     stands (text_of begun.course.program) begun.course.items ≡ Some (run_of begun.course) → (options.workers ≡ 1 → PlaysChosen options.seed begun h) → IsWorked begun h →
     IsRunOf h.course.program h.watch h.course.items h.reports (run_of h.course) → AreTold h.reports (upto mid errors) →
-    IfOk made (λ reply. IsEnded asked saving h (behind h.course.output (plain_of reply))) → IfErr made (λ why. why ≡ Memory) →
-    IsCarriedOut (plain_reply h.course.output made) output (since mid errors) store status → ProgramOutcome asked saving p options output errors store status
-ended_ran asked saving p options begun h made output errors mid store status begins leads plays worked run told ended memory carried =
+    Replies (IsTold asked saving h) output (since mid errors) store status → ProgramOutcome asked saving p options output errors store status
+ended_ran asked saving p options begun h output errors mid store status begins leads plays worked run told ended =
     let r = run_of h.course in
     let more = worked.goes_on in
     let program : h.course.program ≡ p = more.program ∙ begins.program in
@@ -77,30 +124,33 @@ ended_ran asked saving p options begun h made output errors mid store status beg
       exchanged p options.steps options.watch begun h begins more,
       (
         mid,
-        plain_reply h.course.output made,
-        so made ended memory
+        ended.0,
+        so ended.0 ended.1
             (λ reply is. (
               told,
               (
                 subst (λ (b : ℕ). over b r ≡ true) budget worked.over_is,
                 subst (λ (w : Option ℕ). AllReported w h.course.items h.reports) watch worked.none_due,
               ),
-              subst (λ (b : ℕ). IsEndReply asked saving p h.course.items b r reply) budget
-                  (subst (λ (q : List (PlainItem ℕ)). IsEndReply asked saving q h.course.items h.budget r reply) program is),
+              subst (λ (b : ℕ). EndsTold asked saving p h.course.items b reply) budget
+                  (subst (λ (q : List (PlainItem ℕ)). EndsTold asked saving q h.course.items h.budget reply) program is),
               λ one. chosen_from p options.steps options.seed options.watch begun h begins leads (plays one),
-            )),
-        carried,
+            ))
+            (λ reply is. (told, subst (λ (q : List (PlainItem ℕ)). MemoryRanOut asked q h.course.items r reply) program is)),
+        ended.2,
       ),
     )
   where
-    so : (made : Result Reply Refusal) → IfOk made (λ reply. IsEnded asked saving h (behind h.course.output (plain_of reply))) → IfErr made (λ why. why ≡ Memory) →
-        ((reply : PlainReply) → IsEnded asked saving h reply →
+    so : (reply : PlainReply) → IsTold asked saving h reply →
+        ((reply : PlainReply) → EndsTold asked saving h.course.program h.course.items h.budget reply →
         AreTold h.reports (upto mid errors) × HasEnded options.steps options.watch h.course.items h.reports (run_of h.course)
-        × IsEndReply asked saving p h.course.items options.steps (run_of h.course) reply
+        × EndsTold asked saving p h.course.items options.steps reply
         × (options.workers ≡ 1 → IsChosen p options.steps options.seed h.course.items (run_of h.course))) →
-        IsRunReply asked saving p options h.course.items h.reports (run_of h.course) (upto mid errors) (plain_reply h.course.output made)
-    so (Ok reply) ended none over = inl (over (behind h.course.output (plain_of reply)) ended)
-    so (Err why) none memory over = inr (inl (told, ap (plain_refusal h.course.output) memory))
+        ((reply : PlainReply) → MemoryRanOut asked h.course.program h.course.items (run_of h.course) reply →
+        AreTold h.reports (upto mid errors) × MemoryRanOut asked p h.course.items (run_of h.course) reply) →
+        IsRunReply asked saving p options h.course.items h.reports (run_of h.course) (upto mid errors) reply
+    so reply (inl is) over ran_out = inl (over reply is)
+    so reply (inr is) over ran_out = inr (inl (ran_out reply is))
 
 -- why it was stopped was told, behind what was written of its reports
 pub stopped_ran : (asked : PlainAsked) (saving : PlainSaving) (p : List (PlainItem ℕ)) (options : RunOptions) (begun : Kept) (stopped : Stopped) (output errors : Passage) (mid : Moment)
@@ -121,32 +171,27 @@ stopped_ran asked saving p options begun stopped output errors mid store status 
   where
     so : (why : Cause) → AreToldBy options stopped.hub why (stream errors.old.bytes mid.bytes) → mid.failed ≡ failed_by why →
         IsRunReply asked saving p options stopped.hub.course.items stopped.hub.reports (run_of stopped.hub.course) (upto mid errors) (stop_reply stopped.hub why)
-    so cause.Memory told failed = inr (inl ((told, failed), refl))
+    so cause.Memory told failed = inr (inl ((told, failed), inl refl))
     so cause.Write told failed = inr (inr (inl ((told, failed), refl)))
     so cause.Foreign told failed = inr (inr (inr (told.0, (told.1.0, told.1.1, told.1.2, (told.1.3, failed)), refl)))
 
 -- the script was run, with the numbers of its servers
-pub opened_ran : (explains : Bool) (s : PlainScript) (options : RunOptions) (servers : List ℕ) (asked : PlainAsked) (saving : PlainSaving) (p : List (PlainItem ℕ)) (output errors : Passage)
-    (store : Shelf) (status : ℕ) → first_unknown s (server_names options.end) ≡ None → servers ≡ server_numbers s (server_names options.end) → p ≡ s.program →
-    asked ≡ record { explains = explains; strict = options.end.strict; servers = servers } → saving ≡ saving_of options → SomehowOutcome asked saving p options output errors store status →
-    ScriptOutcome explains s options output errors store status
-opened_ran explains s options servers asked saving p output errors store status known numbered program same saves (inl ran) =
+pub opened_ran : (explains : Bool) (s : PlainScript) (properties : List Property) (options : RunOptions) (servers : List ℕ) (asked : PlainAsked) (saving : PlainSaving)
+    (p : List (PlainItem ℕ)) (output errors : Passage) (store : Shelf) (status : ℕ) → first_unknown s (server_names options.end) ≡ None → servers ≡ server_numbers s (server_names options.end) → p ≡ s.program →
+    asked ≡ record { explains = explains; strict = options.end.strict; servers = servers; properties = properties; stops = options.stop } → saving ≡ saving_of options →
+    SomehowOutcome asked saving p options output errors store status → ScriptOutcome explains s properties options output errors store status
+opened_ran explains s properties options servers asked saving p output errors store status known numbered program same saves (inl ran) =
     let order : Option Order = order_said options.turns options.priority in
-    let asks : asked ≡ run_asked options explains s = same ∙ ap (λ (ns : List ℕ). record { explains = explains; strict = options.end.strict; servers = ns }) numbered in
+    let asks : asked ≡ run_asked options explains s properties =
+    same ∙ ap (λ (ns : List ℕ). record { explains = explains; strict = options.end.strict; servers = ns; properties = properties; stops = options.stop }) numbered in
     inl (
       known,
       subst (λ (a : PlainAsked). RunsSo order a (saving_of options) s.program options output errors store status) asks
           (subst (λ (v : PlainSaving). RunsSo order asked v s.program options output errors store status) saves
           (subst (λ (q : List (PlainItem ℕ)). RunsSo order asked saving q options output errors store status) program ran)),
     )
-opened_ran explains s options servers asked saving p output errors store status known numbered program same saves (inr (reply, memory, carried)) =
+opened_ran explains s properties options servers asked saving p output errors store status known numbered program same saves (inr (reply, memory, carried)) =
     inr (reply, inr memory, carried)
-
--- a run in an order that is said, as it was told
-pub ordered_told : (asked : PlainAsked) (saving : PlainSaving) (h : Kept) (made : Result Reply Refusal) → IfOk made (λ r. IsEnded asked saving h (behind h.course.output (plain_of r)))
-    → IfErr made (λ why. why ≡ Memory) → IsEnded asked saving h (plain_reply h.course.output made) ⊎ (plain_reply h.course.output made ≡ runs_out h.course.output)
-ordered_told asked saving h (Ok r) ok err = inl ok
-ordered_told asked saving h (Err why) ok err = inr (ap (plain_refusal h.course.output) err)
 
 -- a run where no order is said
 pub somehow_so : (asked : PlainAsked) (saving : PlainSaving) (p : List (PlainItem ℕ)) (options : RunOptions) (output errors : Passage) (store : Shelf) (status : ℕ)

@@ -1,12 +1,12 @@
 -- The command `explore`: what is told of many runs of a script, what is shown meanwhile, and what is saved of them.
 use Rattle.std.specs.Prelude.{◌≡◌, ◌⊎◌, ℕ, suc, ◌+◌, ◌*◌, ◌/◌, Bool, true, false, if◌then◌else◌, List, [], ◌∷◌, filter, map, Option, Some, None, option_map, slice_get}
-use Rattle.std.specs.List.{flat_map}
+use Rattle.std.specs.List.{flat_map, list_any}
 use Rattle.std.specs.Fmt.{decimal}
 use Rattle.std.specs.Option.{option_map_or}
 use Rattle.cml_check.specs.Sizes.{size_of}
 use Rattle.cml_check.specs.Syntax.{Name, PlainItem}
 use Rattle.cml_explore.specs.Classes.{PlainClass}
-use Rattle.cml_explore.specs.Explored.{PlainExplored, IsExplored}
+use Rattle.cml_explore.specs.Explored.{PlainExplored, IsExplored, IsFirstOutput}
 use Rattle.cml_explore.specs.Stops.{is_saved}
 use Rattle.cml_explore.specs.Told.{IsToldOfRuns}
 use Rattle.cml_explore.specs.declared.explored.Asked.{Asked}
@@ -15,6 +15,8 @@ use Rattle.cml_explore.specs.declared.told.ClassTold.{ClassTold}
 use Rattle.cml_explore.specs.declared.told.RunsTold.{RunsTold}
 use Rattle.cml_phrase.specs.Spots.{all_places}
 use Rattle.cml_explore.specs.declared.explored.Until.TheVariants as stop
+use Rattle.cml_properties.specs.declared.property.Property.{Property}
+use Rattle.cml_properties.specs.declared.property.Property.TheVariants.{SameLines, SameOrder}
 use Rattle.cml_schedule.specs.Written.{schedule_text}
 use Rattle.cml_schedule.specs.declared.item.Item.{Item}
 use Rattle.cml_stream.specs.Counts.{counted}
@@ -31,7 +33,9 @@ use Rattle.cml_host.specs.declared.explore.Seen.{Seen}
 use Rattle.cml_host.specs.Scripts.{PlainScript, IsOpened, IsNoScript}
 use Rattle.cml_host.specs.Servers.{IsNoFunction, first_unknown, server_numbers}
 use Rattle.cml_host.specs.Stores.{Content, Shelf}
+use Rattle.cml_host.specs.Wanted.{AreWanted, IsUnwanted}
 use Rattle.cml_host.specs.declared.explain.Halt.{Halt}
+use Rattle.cml_host.specs.declared.wanted.Alike.{Alike}
 
 -- ---- what is asked for
 
@@ -57,13 +61,28 @@ explored_until options = map (λ name. name.now) options.until.items
 abbrev pub explored_servers : ExploreOptions → List Name
 explored_servers options = map (λ name. name.now) options.servers.items
 
--- these runs are those that the arguments ask for, where the functions of servers have these numbers
-pub record AsksForRuns (options : ExploreOptions) (servers : List ℕ) (asked : Asked) : Type 0 where
+-- the property compares runs
+abbrev pub compares : Property → Bool
+compares SameLines = true
+compares SameOrder = true
+compares _ = false
+
+-- The runs are held beside the first of them, if a property compares runs.
+abbrev pub IsBeside : List (PlainItem ℕ) → Asked → Type 0
+IsBeside p asked = list_any compares asked.wanted.properties.now ≡ true → IsFirstOutput p asked asked.wanted.first.now
+
+-- what the arguments say of printing alike
+abbrev pub alike_of : ExploreOptions → Alike
+alike_of options = record { lines = options.same_lines; order = options.same_order }
+
+-- these runs are those that the arguments ask for, where these properties are wanted, and the functions of servers have these numbers
+pub record AsksForRuns (options : ExploreOptions) (properties : List Property) (servers : List ℕ) (asked : Asked) : Type 0 where
   pub budget : asked.budget ≡ options.steps
   pub first : asked.first ≡ options.seed
   pub runs : asked.runs ≡ options.runs
   pub orders : asked.orders ≡ orders_said options.picks (order_said options.turns options.priority)
   pub servers_are : asked.servers.now ≡ servers
+  pub wanted_are : asked.wanted.properties.now ≡ properties
   pub until : asked.until.now ≡ stops_of (explored_until options)
 
 -- ---- what is shown meanwhile
@@ -143,31 +162,37 @@ TellsRuns start budget s asked made reply =
     × (reply.words ≡ []) × (reply.status ≡ judged made.well)
 
 -- the runs that the arguments ask for were made, and are told of; or memory ran out
-abbrev pub HasToldRuns : ExploreOptions → PlainScript → List ℕ → PlainReply → Type 0
-HasToldRuns options s servers reply =
-    ((asked : Asked) × AsksForRuns options servers asked
+abbrev pub HasToldRuns : ExploreOptions → PlainScript → List Property → List ℕ → PlainReply → Type 0
+HasToldRuns options s properties servers reply =
+    ((asked : Asked) × AsksForRuns options properties servers asked × IsBeside s.program asked
     × ((made : PlainExplored) × IsExplored s.program asked made × TellsRuns (saved_start options) options.steps s asked made reply))
     ⊎ (reply ≡ runs_out [])
 
 -- the same behind what was shown; or what is shown could not be written, and nothing is told
-abbrev pub ProgramExplored : ExploreOptions → Bool → PlainScript → List ℕ → Passage → PlainReply → Type 0
-ProgramExplored options shows s servers errors reply =
+abbrev pub ProgramExplored : ExploreOptions → Bool → PlainScript → List Property → List ℕ → Passage → PlainReply → Type 0
+ProgramExplored options shows s properties servers errors reply =
     ShowsMarks shows (bytes_of errors)
-    × (((errors.new.failed ≡ errors.old.failed) × HasToldRuns options s servers reply)
+    × (((errors.new.failed ≡ errors.old.failed) × HasToldRuns options s properties servers reply)
     ⊎ ((errors.new.failed ≡ counted errors.old.failed) × (reply ≡ refusal [] 1)))
 
 -- The same of the script, where it has the functions that are named as those of servers; or it has not, or memory ran out before.
-abbrev pub ScriptExplored : ExploreOptions → Bool → PlainScript → Passage → PlainReply → Type 0
-ScriptExplored options shows s errors reply =
+abbrev pub ScriptExplored : ExploreOptions → Bool → PlainScript → List Property → Passage → PlainReply → Type 0
+ScriptExplored options shows s properties errors reply =
     ((first_unknown s (explored_servers options) ≡ None)
-    × ProgramExplored options shows s (server_numbers s (explored_servers options)) errors reply)
+    × ProgramExplored options shows s properties (server_numbers s (explored_servers options)) errors reply)
     ⊎ (RefusalOf (IsNoFunction s (explored_servers options)) reply × (errors.new ≡ errors.old))
+
+-- The same, where the arguments say what must hold of each run; or what is wrong with that is told.
+abbrev pub WantedExplored : ExploreOptions → Bool → PlainScript → (List ℕ → Content) → Passage → PlainReply → Type 0
+WantedExplored options shows s held errors reply =
+    ((properties : List Property) × AreWanted options.properties (alike_of options) held properties × ScriptExplored options shows s properties errors reply)
+    ⊎ (RefusalOf (IsUnwanted true options.properties held) reply × (errors.new ≡ errors.old))
 
 -- The runs of the script that lies under the name were made and told of; how far it is is shown where the errors go to a terminal. Or no
 -- script lies there, which is explained, it was not read, or memory ran out.
 abbrev pub ExploresSo : ExploreOptions → Bool → (List ℕ → Content) → Passage → PlainReply → Type 0
 ExploresSo options terminal held errors reply =
-    ((s : PlainScript) × IsOpened (held options.script.now) s × ScriptExplored options terminal s errors reply)
+    ((s : PlainScript) × IsOpened (held options.script.now) s × WantedExplored options terminal s held errors reply)
     ⊎ (RefusalOf (IsNoScript true options.script.now (held options.script.now)) reply × (errors.new ≡ errors.old))
 
 -- `explore`: this was shown, and what is told of the runs was told and saved

@@ -20,6 +20,7 @@ pub mod Exploring
 pub mod Json
 pub mod Outcomes
 pub mod Verified
+pub mod Wanted
 pub mod Shrunk
 pub mod Stepped
 pub mod Statuses

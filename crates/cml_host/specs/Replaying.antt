@@ -16,7 +16,10 @@ use Rattle.cml_host.specs.Replies.{Passage, PlainReply, RefusalOf, Replies, brok
 use Rattle.cml_host.specs.Scripts.{PlainScript, IsOpened, IsNoScript}
 use Rattle.cml_host.specs.Servers.{IsNoFunction, first_unknown, server_numbers, server_names}
 use Rattle.cml_host.specs.Told.{IsRunOf, AllReported, AreTold, AreCut}
-use Rattle.cml_host.specs.Closed.{PlainAsked, IsClosed}
+use Rattle.cml_host.specs.Closed.{PlainAsked}
+use Rattle.cml_host.specs.Running.{EndsTold, PlainSaving, MemoryRanOut}
+use Rattle.cml_host.specs.Wanted.{AreWanted, IsUnwanted, alone}
+use Rattle.cml_properties.specs.declared.property.Property.{Property}
 
 -- the schedule has an item that is not allowed where it stands, and this tells the first such
 abbrev pub HasBadItem : Bool → List (PlainItem ℕ) → PlainPlan → Fault
@@ -27,11 +30,15 @@ abbrev pub IsNotFollowed : Bool → List ℕ → Content → List (PlainItem ℕ
 IsNotFollowed explains name content p told status =
     IsNoPlanFor explains name content p told status ⊎ ((plan : PlainPlan) × IsPlanFor content p plan × HasBadItem explains p plan told status)
 
+-- nothing is saved
+abbrev pub saves_nothing : PlainSaving
+saves_nothing = record { schedule = None; picture = None }
+
 -- What is told of the run to which the schedule leads, behind what was written of its reports to these errors: how it is closed, or its output so far
 -- and that memory ran out; or that a write of them failed.
 abbrev pub IsReplayReply : PlainAsked → List (PlainItem ℕ) → ℕ → List Item → List PlainReport → Run → Passage → PlainReply → Type 0
 IsReplayReply asked p budget items reports r errors reply =
-    (AreTold reports errors × (IsClosed asked None p items budget r reply ⊎ (reply ≡ runs_out r.output))) ⊎ (AreCut reports errors × (reply ≡ broken))
+    (AreTold reports errors × (EndsTold asked saves_nothing p items budget reply ⊎ MemoryRanOut asked p items r reply)) ⊎ (AreCut reports errors × (reply ≡ broken))
 
 -- The program followed the schedule, and where it led was told.
 abbrev pub PlanOutcome : PlainAsked → List (PlainItem ℕ) → Option ℕ → PlainPlan → Passage → Passage → Shelf → ℕ → Type 0
@@ -47,23 +54,35 @@ ScheduleOutcome asked p watch name content output errors store status =
     ⊎ Replies (RefusalOf (IsNotFollowed asked.explains name content p)) output errors store status
 
 -- what is asked of the end of a run of this script
-abbrev pub replay_asked : ReplayOptions → Bool → PlainScript → PlainAsked
-replay_asked options explains s =
-    record { explains = explains; strict = options.end.strict; servers = server_numbers s (server_names options.end) }
+abbrev pub replay_asked : ReplayOptions → Bool → PlainScript → List Property → PlainAsked
+replay_asked options explains s properties = record {
+  explains = explains;
+  strict = options.end.strict;
+  servers = server_numbers s (server_names options.end);
+  properties = properties;
+  stops = options.stop;
+}
 
 -- The script was run by the schedule, where it has the functions that are named as those of servers; or it has not.
-abbrev pub ScriptReplayed : Bool → PlainScript → ReplayOptions → Content → Passage → Passage → Shelf → ℕ → Type 0
-ScriptReplayed explains s options content output errors store status =
+abbrev pub ScriptReplayed : Bool → PlainScript → List Property → ReplayOptions → Content → Passage → Passage → Shelf → ℕ → Type 0
+ScriptReplayed explains s properties options content output errors store status =
     ((first_unknown s (server_names options.end) ≡ None)
-    × ScheduleOutcome (replay_asked options explains s) s.program options.watch options.schedule.now content output errors store status)
+    × ScheduleOutcome (replay_asked options explains s properties) s.program options.watch options.schedule.now content output errors store status)
     ⊎ Replies (RefusalOf (IsNoFunction s (server_names options.end))) output errors store status
+
+-- the same, where the arguments say what must hold of the run; or what is wrong with that is told
+abbrev pub WantedReplayed : Bool → PlainScript → ReplayOptions → Passage → Passage → Shelf → ℕ → Type 0
+WantedReplayed explains s options output errors store status =
+    ((properties : List Property) × AreWanted options.properties alone store.before properties
+    × ScriptReplayed explains s properties options (store.before options.schedule.now) output errors store status)
+    ⊎ Replies (RefusalOf (IsUnwanted explains options.properties store.before)) output errors store status
 
 -- `replay`: the script that lies under its name was run by the schedule that lies under its own, or that schedule was refused; or the
 -- script was not run: no script lies there, which may be explained, it was not read, or memory ran out.
 abbrev pub ReplayOutcome : ReplayOptions → Bool → Passage → Passage → Shelf → ℕ → Type 0
 ReplayOutcome options explains output errors store status =
     ((s : PlainScript) × IsOpened (store.before options.script.now) s
-    × ScriptReplayed explains s options (store.before options.schedule.now) output errors store status)
+    × WantedReplayed explains s options output errors store status)
     ⊎ Replies (RefusalOf (IsNoScript explains options.script.now (store.before options.script.now))) output errors store status
 
 -- ---- what private functions say

@@ -1,12 +1,14 @@
 -- The command `run`: what it does with a script.
-use Rattle.std.specs.Prelude.{◌≡◌, ◌≢◌, ◌⊎◌, ℕ, ◌<◌, Bool, List, [], ◌∷◌, ◌++◌, true, false, codes, Option, Some, None, length, option_map, unwrap_or}
+use Rattle.std.specs.Prelude.{◌≡◌, ◌≢◌, ◌⊎◌, ℕ, ◌<◌, Bool, MatchBool, List, [], ◌∷◌, ◌++◌, true, false, codes, Option, Some, None, length, option_map, unwrap_or}
 use Rattle.cml_check.specs.Syntax.{PlainItem}
 use Rattle.cml_hub.specs.Choices.{seeded}
 use Rattle.cml_host.specs.Chosen.{by_first, by_words}
 use Rattle.cml_hub.specs.Courses.{run_of}
 use Rattle.cml_hub.specs.Kept.{Kept, SwapsAreExchanges}
 use Rattle.cml_hub.specs.Playing.{Rules, run_by, PlaysOut}
-use Rattle.cml_hub.specs.Runs.{Run, over}
+use Rattle.cml_hub.specs.Runs.{Run, over, stands}
+use Rattle.cml_judge.specs.Stops.{IsStoppedThere, IsToldUpTo}
+use Rattle.cml_properties.specs.declared.property.Property.{Property}
 use Rattle.cml_hub.specs.declared.choose.First.{First}
 use Rattle.cml_schedule.specs.Reports.{PlainReport}
 use Rattle.cml_schedule.specs.declared.item.Item.{Item}
@@ -31,6 +33,7 @@ use Rattle.cml_explore.specs.declared.seed.order.Order.{Order}
 use Rattle.cml_host.specs.Servers.{IsNoFunction, first_unknown, server_numbers, server_names}
 use Rattle.cml_host.specs.Told.{IsRunOf, AllReported, AreTold, AreCut, AreForeign, reports_text}
 use Rattle.cml_host.specs.Closed.{PlainAsked, IsClosed}
+use Rattle.cml_host.specs.Wanted.{AreWanted, IsUnwanted, alone}
 use Rattle.cml_host.specs.Drawn.{IsDrawnFrom, IsTooLongFrom}
 use Rattle.cml_host.specs.declared.run.Saving.{Saving}
 
@@ -68,9 +71,27 @@ abbrev pub IsEndReply : PlainAsked → PlainSaving → List (PlainItem ℕ) → 
 IsEndReply asked saving p items budget r reply =
     (bare : PlainReply) × IsClosed asked saving.schedule p items budget r bare × IsPictured asked.explains saving.picture p budget items bare reply
 
+-- What is told of a run that is over: of all of it; or, where it is to stop, of what it does until it stops.
+abbrev pub EndsTold : PlainAsked → PlainSaving → List (PlainItem ℕ) → List Item → ℕ → PlainReply → Type 0
+EndsTold asked saving p items budget reply =
+    (told : List Item) × (r : Run) × IsToldUpTo asked.stops asked.properties (text_of p) items told × (stands (text_of p) told ≡ Some r)
+    × IsEndReply asked saving p told budget r reply
+
+-- memory ran out while it was told
+abbrev pub MemoryRanOut : PlainAsked → List (PlainItem ℕ) → List Item → Run → PlainReply → Type 0
+MemoryRanOut asked p items r reply =
+    (reply ≡ runs_out r.output)
+    ⊎ ((told : List Item) × (so_far : Run) × IsToldUpTo asked.stops asked.properties (text_of p) items told × (stands (text_of p) told ≡ Some so_far)
+    × (reply ≡ runs_out so_far.output))
+
 -- what is told of the run of this hub, which is over
 abbrev pub IsEnded : PlainAsked → PlainSaving → Kept → PlainReply → Type 0
 IsEnded asked saving h reply = IsEndReply asked saving h.course.program h.course.items h.budget (run_of h.course) reply
+
+-- the same of a run that stops where it is to stop, or that memory ran out meanwhile
+abbrev pub IsTold : PlainAsked → PlainSaving → Kept → PlainReply → Type 0
+IsTold asked saving h reply =
+    EndsTold asked saving h.course.program h.course.items h.budget reply ⊎ MemoryRanOut asked h.course.program h.course.items (run_of h.course) reply
 
 -- the reports are written while the program runs: where they are asked for, and more workers than one
 abbrev pub ReportsAreLive : RunOptions → Type 0
@@ -90,9 +111,9 @@ IsChosen p budget (Some seed) items r = IsRunBy p budget by_words (seeded seed) 
 -- chooses. Or memory ran out. Or a write of its reports failed; or those that were written are not its own.
 abbrev pub IsRunReply : PlainAsked → PlainSaving → List (PlainItem ℕ) → RunOptions → List Item → List PlainReport → Run → Passage → PlainReply → Type 0
 IsRunReply asked saving p options items reports r errors reply =
-    (AreTold reports errors × HasEnded options.steps options.watch items reports r × IsEndReply asked saving p items options.steps r reply
+    (AreTold reports errors × HasEnded options.steps options.watch items reports r × EndsTold asked saving p items options.steps reply
     × (options.workers ≡ 1 → IsChosen p options.steps options.seed items r))
-    ⊎ (AreTold reports errors × (reply ≡ runs_out r.output))
+    ⊎ (AreTold reports errors × MemoryRanOut asked p items r reply)
     ⊎ (AreCut reports errors × (reply ≡ broken))
     ⊎ (ReportsAreLive options × AreForeign reports errors × (reply ≡ refusal (line (codes "foreign hub")) 1))
 
@@ -105,8 +126,7 @@ ProgramOutcome asked saving p options output errors store status =
 -- The run by the seed in this order came to its end, or memory ran out while it was told; or before. Where no seed is given, it is seed 0.
 abbrev pub IsOrderedReply : PlainAsked → PlainSaving → List (PlainItem ℕ) → RunOptions → Order → PlainReply → Type 0
 IsOrderedReply asked saving p options order reply =
-    ((h : Kept) × IsSeedRun p options.steps order (unwrap_or options.seed 0) h × (IsEnded asked saving h reply ⊎ (reply ≡ runs_out h.course.output)))
-    ⊎ (reply ≡ runs_out [])
+    ((h : Kept) × IsSeedRun p options.steps order (unwrap_or options.seed 0) h × IsTold asked saving h reply) ⊎ (reply ≡ runs_out [])
 
 -- the run by the seed in this order was made, and told
 abbrev pub OrderedOutcome : PlainAsked → PlainSaving → List (PlainItem ℕ) → RunOptions → Order → Passage → Passage → Shelf → ℕ → Type 0
@@ -117,22 +137,34 @@ abbrev pub RunsSo : Option Order → PlainAsked → PlainSaving → List (PlainI
 RunsSo None asked saving p options output errors store status = ProgramOutcome asked saving p options output errors store status
 RunsSo (Some order) asked saving p options output errors store status = OrderedOutcome asked saving p options order output errors store status
 
--- what is asked of the end of a run of this script
-abbrev pub run_asked : RunOptions → Bool → PlainScript → PlainAsked
-run_asked options explains s =
-    record { explains = explains; strict = options.end.strict; servers = server_numbers s (server_names options.end) }
+-- what is asked of the end of a run of this script, of which these properties are wanted
+abbrev pub run_asked : RunOptions → Bool → PlainScript → List Property → PlainAsked
+run_asked options explains s properties = record {
+  explains = explains;
+  strict = options.end.strict;
+  servers = server_numbers s (server_names options.end);
+  properties = properties;
+  stops = options.stop;
+}
 
 -- The script was run, where it has the functions that are named as those of servers; or it has not, or memory ran out before.
-abbrev pub ScriptOutcome : Bool → PlainScript → RunOptions → Passage → Passage → Shelf → ℕ → Type 0
-ScriptOutcome explains s options output errors store status =
+abbrev pub ScriptOutcome : Bool → PlainScript → List Property → RunOptions → Passage → Passage → Shelf → ℕ → Type 0
+ScriptOutcome explains s properties options output errors store status =
     ((first_unknown s (server_names options.end) ≡ None)
-    × RunsSo (order_said options.turns options.priority) (run_asked options explains s) (saving_of options) s.program options output errors store status)
+    × RunsSo (order_said options.turns options.priority) (run_asked options explains s properties) (saving_of options) s.program options output errors store
+    status)
     ⊎ Replies (RefusalOf (IsNoFunction s (server_names options.end))) output errors store status
+
+-- the same, where the arguments say what must hold of the run; or what is wrong with that is told
+abbrev pub WantedOutcome : Bool → PlainScript → RunOptions → Passage → Passage → Shelf → ℕ → Type 0
+WantedOutcome explains s options output errors store status =
+    ((properties : List Property) × AreWanted options.properties alone store.before properties × ScriptOutcome explains s properties options output errors store status)
+    ⊎ Replies (RefusalOf (IsUnwanted explains options.properties store.before)) output errors store status
 
 -- `run`: the script that lies under the name was run; or it was not: no script lies there, which may be explained, it was not read, or memory ran out.
 abbrev pub RunOutcome : RunOptions → Bool → Passage → Passage → Shelf → ℕ → Type 0
 RunOutcome options explains output errors store status =
-    ((s : PlainScript) × IsOpened (store.before options.file.now) s × ScriptOutcome explains s options output errors store status)
+    ((s : PlainScript) × IsOpened (store.before options.file.now) s × WantedOutcome explains s options output errors store status)
     ⊎ Replies (RefusalOf (IsNoScript explains options.file.now (store.before options.file.now))) output errors store status
 
 -- ---- what private functions say
@@ -147,6 +179,14 @@ abbrev pub SomehowOutcome : PlainAsked → PlainSaving → List (PlainItem ℕ) 
 SomehowOutcome asked saving p options output errors store status =
     RunsSo (order_said options.turns options.priority) asked saving p options output errors store status
     ⊎ Replies (λ reply. reply ≡ runs_out []) output errors store status
+
+-- the run of this hub was told
+abbrev pub EndTold : PlainAsked → PlainSaving → Kept → Passage → Passage → Shelf → ℕ → Type 0
+EndTold asked saving h output errors store status = Replies (IsTold asked saving h) output errors store status
+
+-- a hub where its run stops, where it is to stop and does
+abbrev pub IsStoppedIf : PlainAsked → Kept → Option Kept → Type 0
+IsStoppedIf asked h other = MatchBool asked.stops (IsStoppedThere asked.properties h other) (other ≡ None)
 
 -- The hub has run to its end, and its reports were written to the errors.
 abbrev pub HasRun : Kept → Kept → Counted → Type 0

@@ -1,5 +1,5 @@
 -- The command `verify`: what is told of every schedule of a script, and what is saved of them.
-use Rattle.std.specs.Prelude.{◌≡◌, ◌⊎◌, ℕ, Bool, MatchBool, true, false, not, ◌&&◌, ◌||◌, is_empty, if◌then◌else◌, List, [], map, codes, Option, None, Some, is_some, option_map}
+use Rattle.std.specs.Prelude.{◌≡◌, ◌⊎◌, ℕ, Bool, MatchBool, true, false, not, ◌&&◌, ◌||◌, ◌==◌, if◌then◌else◌, List, [], length, map, codes, Option, None, Some, is_some, option_map}
 use Rattle.cml_arguments.specs.declared.VerifyOptions.{VerifyOptions}
 use Rattle.cml_check.specs.Syntax.{Name, PlainItem}
 use Rattle.cml_explore.specs.Classes.{PlainClass}
@@ -45,7 +45,7 @@ pub record IsSearched (p : List (PlainItem ℕ)) (with_output : Bool) (bound : �
 
 -- Nothing bad was found: all ends are good, no thread ends at a fault, and each schedule can go on to an end, where that counts.
 abbrev pub is_clean : Bool → Bool → Verdict → Bool
-is_clean endless well v = well && (is_empty v.faults.items && (endless || not (is_some v.unending)))
+is_clean endless well v = well && (length v.faults.items == 0 && (endless || not (is_some v.unending)))
 
 -- Every schedule of the script was examined, up to so many states: the runs are those to the ends of a verdict, in classes of those that ended
 -- alike, and that is told of them, and of its faults.

@@ -1,11 +1,11 @@
 //! The command `explore`: a script runs many times, and it is told how the runs end.
 
 ghost use Rattle.std.specs.{Prelude.{◌≡◌, [], ◌+◌, ◌++◌, ◌-◌, ◌≤◌, ◌<◌, ◌^◌, IfOk, IfErr, IfSome, OnErr, OnOk, filter, length, map, option_map, true}, Fmt.{decimal}};
-ghost use Rattle.std.specs.{List.{All}, String.{string_bytes}};
+ghost use Rattle.std.specs.{List.{All, list_any}, String.{string_bytes}};
 ghost use Rattle.cml_check.specs.Sizes.{size_of};
 ghost use Rattle.cml_explore.specs.Explored.{HasMade, IsExplored, SoFar};
 ghost use Rattle.cml_host.specs.Behind.{bytes_of};
-ghost use Rattle.cml_host.specs.Exploring.{AsksForRuns, ExploreOutcome, ExploresSo, ProgramExplored, ScriptExplored, ShowsMarks, StopsShowing, TellsRuns, explored_until, file_told, files_behind, files_from, files_told, judged, none_seen, saved_start, stop_in, stops_of};
+ghost use Rattle.cml_host.specs.Exploring.{AsksForRuns, ExploreOutcome, ExploresSo, IsBeside, ProgramExplored, ScriptExplored, ShowsMarks, StopsShowing, TellsRuns, WantedExplored, explored_until, file_told, files_behind, files_from, files_told, judged, none_seen, saved_start, stop_in, stops_of};
 ghost use Rattle.cml_host.specs.{Narrated.{IsCutBy, Writes}, Replies.{file, passage, plain_file, plain_of, plain_reply}, Scripts.{plain_script}, Stores.{IsUnchanged, Shelf}};
 ghost use Rattle.cml_host.specs.Exploring as spec;
 ghost use Rattle.cml_host.specs.declared.explain.Halt.TheVariants.{Write};
@@ -24,9 +24,14 @@ use crate::reply::{File, Reply, carry_out, new_file};
 use crate::script::{Script, open_script};
 use crate::servers::find_servers;
 use crate::store::Store;
+use crate::wanted::{Alike, find_properties};
 use cml_arguments::{ExploreOptions, Until as Word};
 use cml_check::Prog;
-use cml_explore::{Asked, ClassTold, Classes, Explored, RunsTold, Until, tell_runs, write_runs};
+use cml_explore::{
+    Asked, ClassTold, Classes, Explored, RunsTold, Until, first_output, tell_runs, write_runs,
+};
+use cml_judge::Wanted;
+use cml_properties::Property;
 use cml_schedule::{Item, schedule_text};
 use cml_stream::Counting;
 use std::alloc::{AllocError, Global};
@@ -85,7 +90,42 @@ fn explore_there<R: Threads + Sync, E: Write, S: Store>(
     ensures same_err { err.new.stream.ghost_name ≡ err.old.stream.ghost_name }
 {
     match open_script(alloc, options.script, true, store) {
-        Ok(script) => explore_opened(rt, alloc, &script, options, shows, err),
+        Ok(script) => explore_wanted(rt, alloc, &script, options, shows, err, store),
+        Err(why) => Err(why),
+    }
+}
+
+// The same of the script, where it is known what must hold of each run.
+fn explore_wanted<R: Threads + Sync, E: Write, S: Store>(
+    rt: &R,
+    alloc: Global,
+    script: &Script,
+    options: &ExploreOptions<'_>,
+    shows: bool,
+    err: &mut Counting<'_, E>,
+    store: &mut S,
+) -> Result<Reply, Refusal>
+    requires counts { IsRuns options.now.runs × IsBudget options.now.steps }
+    requires depth { IfSome options.now.priority IsDepth }
+    requires seeds { options.now.seed + options.now.runs ≤ 2 ^ 64 }
+    ensures told { WantedExplored options.now shows (plain_script script.now) (S.holds store.old) (passage E.contents err.old err.new) (plain_reply [] result) }
+    ensures same { IsUnchanged (S.holds store.old) (S.holds store.new) }
+    ensures same_err { err.new.stream.ghost_name ≡ err.old.stream.ghost_name }
+{
+    let alike = Alike {
+        lines: options.same_lines,
+        order: options.same_order,
+    };
+    match find_properties(alloc, &options.properties, alike, true, store) {
+        Ok(properties) => explore_opened(
+            rt,
+            alloc,
+            script,
+            properties.as_slice(),
+            options,
+            shows,
+            err,
+        ),
         Err(why) => Err(why),
     }
 }
@@ -95,6 +135,7 @@ fn explore_opened<R: Threads + Sync, E: Write>(
     rt: &R,
     alloc: Global,
     script: &Script,
+    properties: &[Property],
     options: &ExploreOptions<'_>,
     shows: bool,
     err: &mut Counting<'_, E>,
@@ -102,11 +143,14 @@ fn explore_opened<R: Threads + Sync, E: Write>(
     requires counts { IsRuns options.now.runs × IsBudget options.now.steps }
     requires depth { IfSome options.now.priority IsDepth }
     requires seeds { options.now.seed + options.now.runs ≤ 2 ^ 64 }
-    ensures told { ScriptExplored options.now shows (plain_script script.now) (passage E.contents err.old err.new) (plain_reply [] result) }
+    ensures told { ScriptExplored options.now shows (plain_script script.now) properties.now (passage E.contents err.old err.new) (plain_reply [] result) }
     ensures same_err { err.new.stream.ghost_name ≡ err.old.stream.ghost_name }
 {
     match find_servers(alloc, script, options.servers.as_slice()) {
-        Ok(servers) => explore_with(rt, alloc, script, options, servers.as_slice(), shows, err),
+        Ok(servers) => {
+            let numbers = servers.as_slice();
+            explore_with(rt, alloc, script, properties, options, numbers, shows, err)
+        }
         Err(why) => Err(why),
     }
 }
@@ -116,6 +160,7 @@ fn explore_with<R: Threads + Sync, E: Write>(
     rt: &R,
     alloc: Global,
     script: &Script,
+    properties: &[Property],
     options: &ExploreOptions<'_>,
     servers: &[u32],
     shows: bool,
@@ -124,23 +169,114 @@ fn explore_with<R: Threads + Sync, E: Write>(
     requires counts { IsRuns options.now.runs × IsBudget options.now.steps }
     requires depth { IfSome options.now.priority IsDepth }
     requires seeds { options.now.seed + options.now.runs ≤ 2 ^ 64 }
-    ensures told { ProgramExplored options.now shows (plain_script script.now) servers.now (passage E.contents err.old err.new) (plain_reply [] result) }
+    ensures told { ProgramExplored options.now shows (plain_script script.now) properties.now servers.now (passage E.contents err.old err.new) (plain_reply [] result) }
     ensures same_err { err.new.stream.ghost_name ≡ err.old.stream.ghost_name }
 {
     match stops_named(alloc, options.until.as_slice()) {
         Ok(until) => {
-            let asked = asked_for(options, servers, until.as_slice());
-            explore_program(rt, alloc, script, options, &asked, shows, err)
+            let wanted = Wanted {
+                properties,
+                first: &[],
+            };
+            let asked = asked_for(options, servers, wanted, until.as_slice());
+            explore_beside(rt, alloc, script, options, &asked, shows, err)
         }
         Err(AllocError) => Err(Refusal::Memory),
     }
 }
 
+// The same beside the first run, where runs are compared.
+fn explore_beside<R: Threads + Sync, E: Write>(
+    rt: &R,
+    alloc: Global,
+    script: &Script,
+    options: &ExploreOptions<'_>,
+    asked: &Asked<'_>,
+    shows: bool,
+    err: &mut Counting<'_, E>,
+) -> Result<Reply, Refusal>
+    requires counts { IsRuns asked.now.runs × IsBudget asked.now.budget }
+    requires seeds { asked.now.first + asked.now.runs ≤ 2 ^ 64 }
+    requires asks { AsksForRuns options.now asked.now.wanted.properties.now asked.now.servers.now asked.now }
+    ensures told { ProgramExplored options.now shows (plain_script script.now) asked.now.wanted.properties.now asked.now.servers.now (passage E.contents err.old err.new) (plain_reply [] result) }
+    ensures same_err { err.new.stream.ghost_name ≡ err.old.stream.ghost_name }
+{
+    let compare = some_compare(asked.wanted.properties);
+    if compare {
+        explore_compared(rt, alloc, script, options, asked, shows, err)
+    } else {
+        explore_program(rt, alloc, script, options, asked, shows, err)
+    }
+}
+
+// The same where runs are compared.
+fn explore_compared<R: Threads + Sync, E: Write>(
+    rt: &R,
+    alloc: Global,
+    script: &Script,
+    options: &ExploreOptions<'_>,
+    asked: &Asked<'_>,
+    shows: bool,
+    err: &mut Counting<'_, E>,
+) -> Result<Reply, Refusal>
+    requires counts { IsRuns asked.now.runs × IsBudget asked.now.budget }
+    requires seeds { asked.now.first + asked.now.runs ≤ 2 ^ 64 }
+    requires asks { AsksForRuns options.now asked.now.wanted.properties.now asked.now.servers.now asked.now }
+    ensures told { ProgramExplored options.now shows (plain_script script.now) asked.now.wanted.properties.now asked.now.servers.now (passage E.contents err.old err.new) (plain_reply [] result) }
+    ensures same_err { err.new.stream.ghost_name ≡ err.old.stream.ghost_name }
+{
+    match first_output(alloc, &script.program, asked) {
+        Ok(first) => {
+            let beside = Asked {
+                budget: asked.budget,
+                first: asked.first,
+                runs: asked.runs,
+                orders: asked.orders,
+                servers: asked.servers,
+                wanted: Wanted {
+                    properties: asked.wanted.properties,
+                    first: first.as_slice(),
+                },
+                until: asked.until,
+            };
+            explore_program(rt, alloc, script, options, &beside, shows, err)
+        }
+        Err(AllocError) => Err(Refusal::Memory),
+    }
+}
+
+// Whether one of these properties compares runs.
+fn some_compare(properties: &[Property]) -> bool
+    ensures { result ≡ list_any spec.compares properties.now }
+{
+    properties.iter().any(is_comparison)
+}
+
+// Whether it compares runs.
+fn is_comparison(property: &Property) -> bool
+    ensures { result ≡ spec.compares property.now }
+{
+    match property {
+        Property::SameLines | Property::SameOrder => true,
+        Property::Never(_)
+        | Property::Always(_)
+        | Property::Once(_)
+        | Property::Before { .. }
+        | Property::Empty => false,
+    }
+}
+
 // What the arguments ask for, where the functions of servers have these numbers.
-fn asked_for<'a>(options: &ExploreOptions<'_>, servers: &'a [u32], until: &'a [Until]) -> Asked<'a>
+fn asked_for<'a>(
+    options: &ExploreOptions<'_>,
+    servers: &'a [u32],
+    wanted: Wanted<'a>,
+    until: &'a [Until],
+) -> Asked<'a>
     requires depth { IfSome options.now.priority IsDepth }
     requires until { until.now ≡ stops_of (explored_until options.now) }
-    ensures { AsksForRuns options.now servers.now result }
+    ensures asks { AsksForRuns options.now wanted.entry.properties.now servers.now result }
+    ensures wanted { result.wanted ≡ wanted.entry }
 {
     Asked {
         budget: options.steps,
@@ -148,6 +284,7 @@ fn asked_for<'a>(options: &ExploreOptions<'_>, servers: &'a [u32], until: &'a [U
         runs: options.runs,
         orders: orders_said(options.picks, order_said(options.turns, options.priority)),
         servers,
+        wanted,
         until,
     }
 }
@@ -210,8 +347,9 @@ fn explore_program<R: Threads + Sync, E: Write>(
 ) -> Result<Reply, Refusal>
     requires counts { IsRuns asked.now.runs × IsBudget asked.now.budget }
     requires seeds { asked.now.first + asked.now.runs ≤ 2 ^ 64 }
-    requires asks { AsksForRuns options.now asked.now.servers.now asked.now }
-    ensures told { ProgramExplored options.now shows (plain_script script.now) asked.now.servers.now (passage E.contents err.old err.new) (plain_reply [] result) }
+    requires asks { AsksForRuns options.now asked.now.wanted.properties.now asked.now.servers.now asked.now }
+    requires beside { IsBeside script.now.program asked.now }
+    ensures told { ProgramExplored options.now shows (plain_script script.now) asked.now.wanted.properties.now asked.now.servers.now (passage E.contents err.old err.new) (plain_reply [] result) }
     ensures same_err { err.new.stream.ghost_name ≡ err.old.stream.ghost_name }
 {
     let workers = worker_count(rt, options.workers);
@@ -424,7 +562,7 @@ fn told_made(
     ensures { IfOk result (λ reply. TellsRuns (saved_start options.now) options.now.steps (plain_script script.now) asked.now made.now (plain_of reply)) }
 {
     let told = told_of(alloc, script, asked, made)?;
-    let output = words_of(alloc, script, options, &told)?;
+    let output = words_of(alloc, script, options, asked.wanted.properties, &told)?;
     let program = &script.program;
     let files = asked_files(
         alloc,
@@ -464,11 +602,20 @@ fn words_of(
     alloc: Global,
     script: &Script,
     options: &ExploreOptions<'_>,
+    properties: &[Property],
     told: &RunsTold,
 ) -> Result<Vec<u8>, AllocError> {
     let mut words = Vec::new(alloc);
     let forms = script.forms.as_slice();
-    write_runs(alloc, &mut words, options.script, forms, told, options.save)?;
+    write_runs(
+        alloc,
+        &mut words,
+        options.script,
+        forms,
+        properties,
+        told,
+        options.save,
+    )?;
     Ok(words)
 }
 

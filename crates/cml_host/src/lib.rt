@@ -1,6 +1,7 @@
 //! The program: what the arguments of its command line ask for, over any input, output and store.
 #![tactic(auto)]
 
+mod broken;
 mod close;
 mod command;
 mod draw;
@@ -30,6 +31,7 @@ mod store;
 mod tell;
 mod trace;
 mod verify;
+mod wanted;
 mod workers;
 
 pub use command::{run_command, run_command_counted};

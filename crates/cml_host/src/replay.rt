@@ -1,25 +1,27 @@
 //! The command `replay`: a script runs again, by a schedule that was saved.
 
-ghost use Rattle.std.specs.Prelude.{◌≡◌, ◌≤◌, length, IfOk, IfErr, None, is_some, true};
-ghost use Rattle.cml_hub.specs.{Courses.{run_of}, Kept.{IsBudget, IsWatch, IsReplayed}};
-ghost use Rattle.cml_host.specs.{Closed.{IsClosed, plain_asked}, Plans.{IsItemTold}, Refused.{RefusesAs}, Replies.{behind, passage, plain_of}, Scripts.{plain_script}};
-ghost use Rattle.cml_host.specs.Replaying.{HasBadItem, IsHubOf, IsNotFollowed, ReplayOutcome, ReplayTold, ScheduleOutcome, ScriptReplayed};
+ghost use Rattle.std.specs.Prelude.{◌≡◌, ◌≤◌, length, IfOk, IfErr, is_some, true};
+ghost use Rattle.cml_hub.specs.Kept.{IsBudget, IsWatch, IsReplayed};
+ghost use Rattle.cml_host.specs.{Closed.{plain_asked}, Plans.{IsItemTold}, Refused.{RefusesAs}, Replies.{passage}, Scripts.{plain_script}};
+ghost use Rattle.cml_host.specs.Replaying.{HasBadItem, IsHubOf, IsNotFollowed, ReplayOutcome, ReplayTold, ScheduleOutcome, ScriptReplayed, WantedReplayed};
 ghost use Rattle.cml_host.specs.Stores.{Shelf, IsUnchanged};
-ghost use Rattle.cml_host.specs.declared.refusal.Refusal.TheVariants.{Memory};
 
 use crate::close::{Asked, Subject, ask};
 use crate::item::{explain_item, tell_item};
 use crate::opening::{REFUSED, open_plan};
 use crate::refusal::Refusal;
-use crate::reply::{Reply, carry_out};
+use crate::reply::carry_out;
 use crate::reports::send_reports;
+use crate::run::{Saving, tell_end};
 use crate::script::{Script, open_script};
 use crate::servers::find_servers;
 use crate::store::Store;
-use crate::tell::{close_reply, hub_is_a_run, let_go};
+use crate::tell::{hub_is_a_run, let_go};
+use crate::wanted::{ALONE, find_properties};
 use cml_arguments::ReplayOptions;
 use cml_check::Prog;
 use cml_hub::{Hub, Plan, ReplayFault};
+use cml_properties::Property;
 use cml_stream::Counting;
 use std::alloc::{AllocError, Global};
 use std::io::Write;
@@ -44,13 +46,13 @@ pub fn replay_file<O: Write, E: Write, S: Store>(
     ensures same_err { err.new.stream.ghost_name ≡ err.old.stream.ghost_name }
 {
     match open_script(alloc, options.script, explains, store) {
-        Ok(script) => replay_script(alloc, script, options, explains, out, err, store),
+        Ok(script) => replay_wanted(alloc, script, options, explains, out, err, store),
         Err(why) => carry_out(alloc, "", &Err(why), out, err, store),
     }
 }
 
-// Runs the script by the schedule, where it has the functions that are named as those of servers.
-fn replay_script<O: Write, E: Write, S: Store>(
+// Runs the script by the schedule, where it is known what must hold of the run.
+fn replay_wanted<O: Write, E: Write, S: Store>(
     alloc: Global,
     script: Script,
     options: &ReplayOptions<'_>,
@@ -64,7 +66,36 @@ fn replay_script<O: Write, E: Write, S: Store>(
     ensures ran { let output = passage O.contents out.old out.new in
         let errors = passage E.contents err.old err.new in
         let shelf : Shelf = record { before = S.holds store.old; after = S.holds store.new } in
-        ScriptReplayed explains (plain_script script) options.now (S.holds store.old options.now.schedule.now) output errors shelf result }
+        WantedReplayed explains (plain_script script) options.now output errors shelf result }
+    ensures same_out { out.new.stream.ghost_name ≡ out.old.stream.ghost_name }
+    ensures same_err { err.new.stream.ghost_name ≡ err.old.stream.ghost_name }
+{
+    match find_properties(alloc, &options.properties, ALONE, explains, store) {
+        Ok(wanted) => replay_script(alloc, script, wanted, options, explains, out, err, store),
+        Err(why) => {
+            drop(script);
+            carry_out(alloc, "", &Err(why), out, err, store)
+        }
+    }
+}
+
+// Runs the script by the schedule, where it has the functions that are named as those of servers.
+fn replay_script<O: Write, E: Write, S: Store>(
+    alloc: Global,
+    script: Script,
+    wanted: Vec<Property>,
+    options: &ReplayOptions<'_>,
+    explains: bool,
+    out: &mut Counting<'_, O>,
+    err: &mut Counting<'_, E>,
+    store: &mut S,
+) -> u8
+    requires watch { IsWatch options.now.watch }
+    requires fresh { err.old.failed ≡ 0 }
+    ensures ran { let output = passage O.contents out.old out.new in
+        let errors = passage E.contents err.old err.new in
+        let shelf : Shelf = record { before = S.holds store.old; after = S.holds store.new } in
+        ScriptReplayed explains (plain_script script) wanted.items options.now (S.holds store.old options.now.schedule.now) output errors shelf result }
     ensures same_out { out.new.stream.ghost_name ≡ out.old.stream.ghost_name }
     ensures same_err { err.new.stream.ghost_name ≡ err.old.stream.ghost_name }
 {
@@ -77,11 +108,14 @@ fn replay_script<O: Write, E: Write, S: Store>(
                 false,
                 options.end.strict,
                 servers,
+                wanted,
+                options.stop,
             );
             replay_program(alloc, program, &asked, options, out, err, store)
         }
         Err(why) => {
             drop(script);
+            drop(wanted);
             carry_out(alloc, "", &Err(why), out, err, store)
         }
     }
@@ -136,22 +170,17 @@ fn tell_run<O: Write, E: Write, S: Store>(
     hub_is_a_run(hub);
     match send_reports(hub.reports(), err) {
         Ok(()) => {
-            let made = closed(alloc, hub, asked);
-            carry_out(alloc, hub.out(), &made, out, err, store)
+            let saving = Saving {
+                schedule: None,
+                picture: None,
+            };
+            tell_end(alloc, hub, asked, &saving, out, err, store)
         }
         Err(_) => {
             let why = Refusal::Line("cannot write output\n", 1);
             carry_out(alloc, "", &Err(why), out, err, store)
         }
     }
-}
-
-// How the run is closed.
-fn closed(alloc: Global, hub: &Hub, asked: &Asked<'_>) -> Result<Reply, Refusal>
-    ensures ok { IfOk result (λ reply. IsClosed (plain_asked asked.now) None hub.now.course.program hub.now.course.items hub.now.budget (run_of hub.now.course) (behind hub.now.course.output (plain_of reply))) }
-    ensures err { IfErr result (λ why. why ≡ Memory) }
-{
-    Ok(close_reply(alloc, hub, asked, None)?)
 }
 
 // The hub that has gone through the schedule.

@@ -1,10 +1,10 @@
 //! The command `run`: a script runs to its end, and its schedule is saved where that is asked for.
 
-ghost use Rattle.std.specs.Prelude.{◌≡◌, IfErr, IfOk, IfSome, is_some, option_map};
+ghost use Rattle.std.specs.Prelude.{◌≡◌, ◌⊎◌, IfErr, IfOk, IfSome, is_some, option_map};
 ghost use Rattle.cml_arguments.specs.Words.{IsDepth};
 ghost use Rattle.cml_hub.specs.Kept.{IsAtStart, IsBudget, IsWatch};
-ghost use Rattle.cml_host.specs.{Closed.{plain_asked}, Replies.{behind, passage, plain_of}, Scripts.{plain_script}, Stores.{Shelf}};
-ghost use Rattle.cml_host.specs.Running.{BegunOutcome, IsEnded, OrderedOutcome, PlainSaving, ProgramOutcome, RunOutcome, ScriptOutcome, SomehowOutcome, plain_saving, wanted_of};
+ghost use Rattle.cml_host.specs.{Closed.{plain_asked}, Replies.{Replies, behind, passage, plain_of, runs_out}, Scripts.{plain_script}, Stores.{Shelf}};
+ghost use Rattle.cml_host.specs.Running.{BegunOutcome, EndTold, IsEnded, IsStoppedIf, OrderedOutcome, PlainSaving, ProgramOutcome, RunOutcome, ScriptOutcome, SomehowOutcome, WantedOutcome, plain_saving, wanted_of};
 ghost use Rattle.cml_host.specs.declared.refusal.Refusal.TheVariants.{Memory};
 ghost use Rattle.cml_work.specs.Works.{IsWorkerCount};
 
@@ -17,12 +17,15 @@ use crate::script::{Script, open_script};
 use crate::servers::find_servers;
 use crate::store::Store;
 use crate::tell::{close_reply, hub_is_a_run, let_go, stop};
+use crate::wanted::{ALONE, find_properties};
 use crate::workers::run_hub;
 use cml_arguments::RunOptions;
 use cml_check::Prog;
 use cml_explore::Order;
 use cml_explore::seed::seed_run;
 use cml_hub::Hub;
+use cml_judge::stopped_hub;
+use cml_properties::Property;
 use cml_stream::Counting;
 use cml_work::Gate;
 use std::alloc::{AllocError, Global};
@@ -67,13 +70,13 @@ where
     ensures same_err { err.new.stream.ghost_name ≡ err.old.stream.ghost_name }
 {
     match open_script(alloc, options.file, explains, store) {
-        Ok(script) => run_script(rt, alloc, gate, script, options, explains, out, err, store),
+        Ok(script) => run_wanted(rt, alloc, gate, script, options, explains, out, err, store),
         Err(why) => carry_out(alloc, "", &Err(why), out, err, store),
     }
 }
 
-// Runs the script, where it has the functions that are named as those of servers.
-fn run_script<R, G, O, E, S>(
+// Runs the script, where it is known what must hold of its run.
+fn run_wanted<R, G, O, E, S>(
     rt: &R,
     alloc: Global,
     gate: &G,
@@ -96,7 +99,47 @@ where
     ensures ran { let output = passage O.contents out.old out.new in
         let errors = passage E.contents err.old err.new in
         let shelf : Shelf = record { before = S.holds store.old; after = S.holds store.new } in
-        ScriptOutcome explains (plain_script script) options.now output errors shelf result }
+        WantedOutcome explains (plain_script script) options.now output errors shelf result }
+    ensures same_out { out.new.stream.ghost_name ≡ out.old.stream.ghost_name }
+    ensures same_err { err.new.stream.ghost_name ≡ err.old.stream.ghost_name }
+{
+    match find_properties(alloc, &options.properties, ALONE, explains, store) {
+        Ok(wanted) => run_script(
+            rt, alloc, gate, script, wanted, options, explains, out, err, store,
+        ),
+        Err(why) => {
+            drop(script);
+            carry_out(alloc, "", &Err(why), out, err, store)
+        }
+    }
+}
+
+// Runs the script, where it has the functions that are named as those of servers.
+fn run_script<R, G, O, E, S>(
+    rt: &R,
+    alloc: Global,
+    gate: &G,
+    script: Script,
+    wanted: Vec<Property>,
+    options: &RunOptions<'_>,
+    explains: bool,
+    out: &mut Counting<'_, O>,
+    err: &mut Counting<'_, E>,
+    store: &mut S,
+) -> u8
+where
+    R: Threads + Wait + Sync,
+    G: Gate + Sync,
+    O: Write,
+    E: Write + Send,
+    S: Store,
+    requires counts { IsWorkerCount options.now.workers × IsBudget options.now.steps × IsWatch options.now.watch }
+    requires depth { IfSome options.now.priority IsDepth }
+    requires fresh { err.old.failed ≡ 0 }
+    ensures ran { let output = passage O.contents out.old out.new in
+        let errors = passage E.contents err.old err.new in
+        let shelf : Shelf = record { before = S.holds store.old; after = S.holds store.new } in
+        ScriptOutcome explains (plain_script script) wanted.items options.now output errors shelf result }
     ensures same_out { out.new.stream.ghost_name ≡ out.old.stream.ghost_name }
     ensures same_err { err.new.stream.ghost_name ≡ err.old.stream.ghost_name }
 {
@@ -104,7 +147,16 @@ where
         Ok(servers) => {
             let draws = options.draw.is_some();
             let strict = options.end.strict;
-            let (program, asked) = ask(options.file, script, explains, draws, strict, servers);
+            let (program, asked) = ask(
+                options.file,
+                script,
+                explains,
+                draws,
+                strict,
+                servers,
+                wanted,
+                options.stop,
+            );
             let saving = saving_for(&asked, options.record, options.draw);
             run_so(
                 rt, alloc, gate, program, &asked, &saving, options, out, err, store,
@@ -112,6 +164,7 @@ where
         }
         Err(why) => {
             drop(script);
+            drop(wanted);
             carry_out(alloc, "", &Err(why), out, err, store)
         }
     }
@@ -196,9 +249,7 @@ where
     let seed = options.seed.unwrap_or(0);
     match seed_run(alloc, &program, options.steps, order, seed) {
         Ok(hub) => {
-            let made = end(alloc, &hub, asked, saving);
-            let status = carry_out(alloc, hub.out(), &made, out, err, store);
-            drop(made);
+            let status = tell_end(alloc, &hub, asked, saving, out, err, store);
             let_go(hub);
             status
         }
@@ -278,9 +329,7 @@ where
     match run_hub(rt, alloc, gate, hub, options, err) {
         Ok(hub) => {
             hub_is_a_run(&hub);
-            let made = end(alloc, &hub, asked, saving);
-            let status = carry_out(alloc, hub.out(), &made, out, err, store);
-            drop(made);
+            let status = tell_end(alloc, &hub, asked, saving, out, err, store);
             let_go(hub);
             status
         }
@@ -291,6 +340,72 @@ where
             status
         }
     }
+}
+
+/// Tells the run of this hub, which is over; where it is to stop, as far as it goes until it does. It returns the status.
+pub fn tell_end<O: Write, E: Write, S: Store>(
+    alloc: Global,
+    hub: &Hub,
+    asked: &Asked<'_>,
+    saving: &Saving<'_>,
+    out: &mut Counting<'_, O>,
+    err: &mut Counting<'_, E>,
+    store: &mut S,
+) -> u8
+    ensures told { let output = passage O.contents out.old out.new in
+        let errors = passage E.contents err.old err.new in
+        let shelf : Shelf = record { before = S.holds store.old; after = S.holds store.new } in
+        EndTold (plain_asked asked.now) (plain_saving saving.now) hub.now output errors shelf result }
+    ensures same_out { out.new.stream.ghost_name ≡ out.old.stream.ghost_name }
+    ensures same_err { err.new.stream.ghost_name ≡ err.old.stream.ghost_name }
+{
+    match stopped(alloc, hub, asked) {
+        Ok(Some(other)) => {
+            hub_is_a_run(&other);
+            let status = tell_whole(alloc, &other, asked, saving, out, err, store);
+            let_go(other);
+            status
+        }
+        Ok(None) => {
+            hub_is_a_run(hub);
+            tell_whole(alloc, hub, asked, saving, out, err, store)
+        }
+        Err(AllocError) => carry_out(alloc, hub.out(), &Err(Refusal::Memory), out, err, store),
+    }
+}
+
+// A hub that stands where the run of this one stops, where it is to stop and does.
+fn stopped(alloc: Global, hub: &Hub, asked: &Asked<'_>) -> Result<Option<Hub>, AllocError>
+    ensures { IfOk result (IsStoppedIf (plain_asked asked.now) hub.now) }
+{
+    if asked.stops {
+        stopped_hub(alloc, asked.properties.as_slice(), hub)
+    } else {
+        Ok(None)
+    }
+}
+
+// Tells the whole run of this hub.
+fn tell_whole<O: Write, E: Write, S: Store>(
+    alloc: Global,
+    hub: &Hub,
+    asked: &Asked<'_>,
+    saving: &Saving<'_>,
+    out: &mut Counting<'_, O>,
+    err: &mut Counting<'_, E>,
+    store: &mut S,
+) -> u8
+    ensures told { let output = passage O.contents out.old out.new in
+        let errors = passage E.contents err.old err.new in
+        let shelf : Shelf = record { before = S.holds store.old; after = S.holds store.new } in
+        Replies (λ reply. IsEnded (plain_asked asked.now) (plain_saving saving.now) hub.now reply ⊎ (reply ≡ runs_out hub.now.course.output)) output errors shelf result }
+    ensures same_out { out.new.stream.ghost_name ≡ out.old.stream.ghost_name }
+    ensures same_err { err.new.stream.ghost_name ≡ err.old.stream.ghost_name }
+{
+    let made = end(alloc, hub, asked, saving);
+    let status = carry_out(alloc, hub.out(), &made, out, err, store);
+    drop(made);
+    status
 }
 
 // What is told of a run that is over: how it is closed, with its picture, where that is asked for.

@@ -1,8 +1,8 @@
 //! The command `shrink`: a shorter schedule of a script, which ends alike.
 
 ghost use Rattle.std.specs.{Prelude.{◌≡◌, [], IfErr, IfOk, true}};
-ghost use Rattle.cml_host.specs.{Refused.{RefusesAs}, Replaying.{HasBadItem}, Replies.{plain_of}};
-ghost use Rattle.cml_host.specs.{Shrunk.{GivesShorter, IsShorterFor, IsUnshrunk}, Stores.{IsUnchanged}};
+ghost use Rattle.cml_host.specs.{Refused.{RefusesAs}, Replies.{plain_of}};
+ghost use Rattle.cml_host.specs.{Shrunk.{GivesShorter, IsNotShorter, IsShorterFor, IsUnshrunk}, Stores.{IsUnchanged}};
 ghost use Rattle.cml_check.specs.Sizes.{size_of};
 ghost use Rattle.cml_hub.specs.Kept.{IsBudget};
 ghost use Rattle.cml_schedule.specs.Written.{schedule_text};
@@ -12,9 +12,10 @@ use crate::refusal::Refusal;
 use crate::replay::tell_bad;
 use crate::reply::Reply;
 use crate::store::Store;
+use crate::wanted::{ALONE, find_properties};
 use cml_arguments::ShrinkOptions;
 use cml_check::Prog;
-use cml_explore::shrink::{ShrinkFault, Shrunk, shrink, tell_shrunk, write_shrunk};
+use cml_explore::shrink::{Asked, ShrinkFault, Shrunk, shrink, tell_shrunk, write_shrunk};
 use cml_hub::{Item, Plan};
 use cml_schedule::schedule_text;
 use std::alloc::{AllocError, Global};
@@ -33,14 +34,21 @@ pub fn shrink_file<S: Store>(
     ensures same { IsUnchanged (S.holds store.old) (S.holds store.new) }
 {
     let both = open_both(alloc, options.script, options.schedule, store)?;
-    shrink_plan(alloc, both, options.tries)
+    let properties = find_properties(alloc, &options.properties, ALONE, true, store)?;
+    let asked = Asked {
+        budget: both.plan.budget,
+        tries: options.tries,
+        properties: properties.as_slice(),
+        stops: options.stop,
+    };
+    shrink_plan(alloc, both, asked)
 }
 
 // For the schedule that was read.
-fn shrink_plan(alloc: Global, both: Opened<'_>, tries: u64) -> Result<Reply, Refusal>
-    requires budget { IsBudget both.plan.budget }
-    ensures ok { IfOk result (λ reply. GivesShorter both.entry.program tries both.entry.plan (plain_of reply)) }
-    ensures err { IfErr result (RefusesAs (HasBadItem true both.entry.program both.entry.plan)) }
+fn shrink_plan(alloc: Global, both: Opened<'_>, asked: Asked<'_>) -> Result<Reply, Refusal>
+    requires budget { IsBudget asked.budget }
+    ensures ok { IfOk result (λ reply. GivesShorter both.entry.program asked.entry both.entry.plan (plain_of reply)) }
+    ensures err { IfErr result (RefusesAs (IsNotShorter both.entry.program asked.entry both.entry.plan)) }
 {
     let Opened {
         program,
@@ -49,7 +57,8 @@ fn shrink_plan(alloc: Global, both: Opened<'_>, tries: u64) -> Result<Reply, Ref
         text,
     } = both;
     let items = plan.items.as_slice();
-    match shrink(alloc, &program, plan.budget, items, tries) {
+    let tries = asked.tries;
+    match shrink(alloc, &program, asked, items) {
         Ok(found) => {
             let shorter = make_shorter(alloc, &program, plan.budget, items, &found, tries);
             drop(program);
@@ -65,6 +74,10 @@ fn shrink_plan(alloc: Global, both: Opened<'_>, tries: u64) -> Result<Reply, Ref
                 number,
             )?;
             Err(Refusal::Told(told, REFUSED))
+        }
+        Err(ShrinkFault::NoBreak) => {
+            drop(program);
+            Err(Refusal::Line("schedule breaks nothing\n", REFUSED))
         }
         Err(ShrinkFault::Memory) => {
             drop(program);

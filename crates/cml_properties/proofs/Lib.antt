@@ -8,4 +8,5 @@ pub mod SortLemmas
 pub mod OneThing
 pub mod OwnLemmas
 pub mod BreachLemmas
+pub mod JudgedLemmas
 pub mod LawLemmas

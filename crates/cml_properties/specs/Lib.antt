@@ -1,4 +1,5 @@
 pub mod Kinds
+pub mod Faults
 pub mod Lines
 pub mod Codes
 pub mod Patterns
@@ -6,5 +7,6 @@ pub mod Properties
 pub mod Watches
 pub mod Agreements
 pub mod Breaches
+pub mod Judged
 pub mod Reading
 pub mod Laws

@@ -85,7 +85,7 @@ fn line_broken(
 }
 
 // The lines of an output.
-fn lines_of(alloc: Global, output: &[u8]) -> Result<Vec<&[u8]>, AllocError>
+pub(crate) fn lines_of(alloc: Global, output: &[u8]) -> Result<Vec<&[u8]>, AllocError>
     ensures { IfOk result (λ found. texts found.items ≡ lines output.now) }
 {
     let mut found = Vec::new(alloc);
@@ -97,7 +97,7 @@ fn lines_of(alloc: Global, output: &[u8]) -> Result<Vec<&[u8]>, AllocError>
 }
 
 // The lines, each with the value that it spells.
-fn printed_of<'a>(alloc: Global, lines: &[&'a [u8]]) -> Result<Vec<Line<'a>>, AllocError>
+pub(crate) fn printed_of<'a>(alloc: Global, lines: &[&'a [u8]]) -> Result<Vec<Line<'a>>, AllocError>
     ensures { IfOk result (λ found. AreLinesOf (texts lines.now) found.items) }
 {
     let mut found = Vec::new(alloc);

@@ -26,6 +26,11 @@ pub enum PropertyFault {
 }
 
 impl fmt::Display for PropertyFault {
+    ghost use Rattle.std.specs.Prelude.{Some};
+    ghost use Rattle.cml_properties.specs.Faults.{property_fault_line};
+
+    ghost output = { λ fault. Some (property_fault_line fault) };
+
     fn fmt<W: fmt::Write>(&self, f: &mut fmt::Formatter<W>) -> fmt::Result {
         match self {
             PropertyFault::At { kind, at } => match kind {

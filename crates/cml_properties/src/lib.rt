@@ -4,6 +4,7 @@
 mod agreement;
 mod breach;
 mod fault;
+mod judged;
 mod kind;
 pub mod law;
 mod line;
@@ -16,6 +17,7 @@ mod words;
 pub use agreement::agree;
 pub use breach::{Breach, Run, breaches};
 pub use fault::{PropertyFault, PropertyFaultKind};
+pub use judged::judge;
 pub use kind::PropertyKind;
 pub use line::Line;
 pub use pattern::Pattern;

@@ -16,7 +16,7 @@ pub mod Quiet
 pub mod Following
 pub mod Rounds
 pub mod Back
-pub mod Ends
+pub mod Wholes
 pub mod Views
 pub mod Listing
 pub mod Local

@@ -9,6 +9,9 @@ pub enum ShrinkFault {
     /// The item of this number, counted from 1, is not allowed where it stands.
     #[error("item {0} is not allowed where it stands")]
     BadItem(usize),
+    /// The schedule is to end where its run breaks what must hold, and that breaks nothing.
+    #[error("nothing breaks")]
+    NoBreak,
     /// Out of memory.
     #[error("out of memory")]
     Memory,

@@ -19,7 +19,7 @@ fn cut_range(
     start: usize,
     end: usize,
 ) -> Result<(), AllocError>
-    requires budget { IsBudget goal.now.budget }
+    requires budget { IsBudget goal.now.asked.budget }
     requires start { start ≤ end }
     requires alike { AlikeTo goal.now search.old.items }
     ensures { OnOk result (Goes goal.now search.old search.new) }
@@ -38,7 +38,7 @@ fn cut_ranges(
     goal: &Goal<'_>,
     size: usize,
 ) -> Result<(), AllocError>
-    requires budget { IsBudget goal.now.budget }
+    requires budget { IsBudget goal.now.asked.budget }
     requires some { 1 ≤ size }
     requires alike { AlikeTo goal.now search.old.items }
     ensures { OnOk result (Goes goal.now search.old search.new) }
@@ -57,7 +57,7 @@ fn cut_ranges(
 /// # Errors
 /// Out of memory.
 pub(crate) fn halve(search: &mut Search, alloc: Global, goal: &Goal<'_>) -> Result<(), AllocError>
-    requires budget { IsBudget goal.now.budget }
+    requires budget { IsBudget goal.now.asked.budget }
     requires alike { AlikeTo goal.now search.old.items }
     ensures { OnOk result (Goes goal.now search.old search.new) }
 {
@@ -75,7 +75,7 @@ pub(crate) fn halve(search: &mut Search, alloc: Global, goal: &Goal<'_>) -> Resu
 /// # Errors
 /// Out of memory.
 pub(crate) fn thin(search: &mut Search, alloc: Global, goal: &Goal<'_>) -> Result<(), AllocError>
-    requires budget { IsBudget goal.now.budget }
+    requires budget { IsBudget goal.now.asked.budget }
     requires alike { AlikeTo goal.now search.old.items }
     ensures { OnOk result (Goes goal.now search.old search.new) }
 {
@@ -131,7 +131,7 @@ fn draw_near(
     goal: &Goal<'_>,
     number: usize,
 ) -> Result<(), AllocError>
-    requires budget { IsBudget goal.now.budget }
+    requires budget { IsBudget goal.now.asked.budget }
     requires alike { AlikeTo goal.now search.old.items }
     ensures { OnOk result (Goes goal.now search.old search.new) }
 {
@@ -150,7 +150,7 @@ fn draw_near(
 /// # Errors
 /// Out of memory.
 pub(crate) fn gather(search: &mut Search, alloc: Global, goal: &Goal<'_>) -> Result<(), AllocError>
-    requires budget { IsBudget goal.now.budget }
+    requires budget { IsBudget goal.now.asked.budget }
     requires alike { AlikeTo goal.now search.old.items }
     ensures { OnOk result (Goes goal.now search.old search.new) }
 {

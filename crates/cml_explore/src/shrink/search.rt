@@ -75,7 +75,7 @@ impl Search {
         goal: &Goal<'_>,
         items: Vec<Item>,
     ) -> Result<bool, AllocError>
-        requires budget { IsBudget goal.now.budget }
+        requires budget { IsBudget goal.now.asked.budget }
         requires few { length items.items ≤ length self.old.items }
         ensures { IfOk result (λ came. Steps goal.now (UnlikeTo goal.now items.items) self.old came self.new) }
     {
@@ -100,7 +100,7 @@ impl Search {
         goal: &Goal<'_>,
         items: Vec<Item>,
     ) -> Result<(), AllocError>
-        requires budget { IsBudget goal.now.budget }
+        requires budget { IsBudget goal.now.asked.budget }
         requires few { length items.items ≤ length self.old.items }
         requires alike { AlikeTo goal.now self.old.items }
         ensures { OnOk result (Goes goal.now self.old self.new) }
@@ -116,7 +116,7 @@ impl Search {
         goal: &Goal<'_>,
         number: usize,
     ) -> Result<bool, AllocError>
-        requires budget { IsBudget goal.now.budget }
+        requires budget { IsBudget goal.now.asked.budget }
         requires there { number < length self.old.items }
         ensures { IfOk result (λ came. Steps goal.now (UnlikeTo goal.now (remove self.old.items number)) self.old came self.new) }
     {
@@ -132,7 +132,7 @@ impl Search {
         number: usize,
         thread: Tid,
     ) -> Result<bool, AllocError>
-        requires budget { IsBudget goal.now.budget }
+        requires budget { IsBudget goal.now.asked.budget }
         requires there { number < length self.old.items }
         ensures { IfOk result (λ came. Steps goal.now (UnlikeTo goal.now (without_rest_of self.old.items thread.0 number)) self.old came self.new) }
     {
@@ -149,7 +149,7 @@ impl Search {
         head: Tid,
         other: Tid,
     ) -> Result<bool, AllocError>
-        requires budget { IsBudget goal.now.budget }
+        requires budget { IsBudget goal.now.asked.budget }
         requires there { number < length self.old.items }
         ensures { IfOk result (λ came. Steps goal.now
             ((t : ℕ) → ((head.0 == t) || (other.0 == t)) ≡ true → UnlikeTo goal.now (without_rest_of self.old.items t number)) self.old came self.new) }
@@ -169,7 +169,7 @@ impl Search {
         number: usize,
         row: Meet,
     ) -> Result<bool, AllocError>
-        requires budget { IsBudget goal.now.budget }
+        requires budget { IsBudget goal.now.asked.budget }
         requires there { number < length self.old.items }
         ensures { IfOk result (λ came. Steps goal.now
             ((t : ℕ) → is_in_row t row ≡ true → UnlikeTo goal.now (without_rest_of self.old.items t number)) self.old came self.new) }
@@ -188,7 +188,7 @@ impl Search {
         number: usize,
         item: Item,
     ) -> Result<bool, AllocError>
-        requires budget { IsBudget goal.now.budget }
+        requires budget { IsBudget goal.now.asked.budget }
         requires there { number < length self.old.items }
         ensures { IfOk result (λ came. Steps goal.now
             ((t : ℕ) → acts_in t item ≡ true → UnlikeTo goal.now (without_rest_of self.old.items t number)) self.old came self.new) }
@@ -203,7 +203,7 @@ impl Search {
 
     // Tries what may be left out at the item of this number: a thread's items from it on, or it alone.
     fn cut_at(&mut self, alloc: Global, goal: &Goal<'_>, number: usize) -> Result<bool, AllocError>
-        requires budget { IsBudget goal.now.budget }
+        requires budget { IsBudget goal.now.asked.budget }
         requires there { number < length self.old.items }
         ensures { IfOk result (λ came. Steps goal.now (NeededBy goal.now self.old.items number) self.old came self.new) }
     {
@@ -222,7 +222,7 @@ impl Search {
         goal: &Goal<'_>,
         number: usize,
     ) -> Result<bool, AllocError>
-        requires { IsBudget goal.now.budget }
+        requires { IsBudget goal.now.asked.budget }
         ensures { IfOk result (λ came. Steps goal.now (number < length self.old.items → NeededBy goal.now self.old.items number) self.old came self.new) }
     {
         if number < self.items.len() {
@@ -234,7 +234,7 @@ impl Search {
 
     // Goes once through the items, from the last to the first, and tries what may be left out at each. Returns whether something was left out.
     fn pass(&mut self, alloc: Global, goal: &Goal<'_>) -> Result<bool, AllocError>
-        requires { IsBudget goal.now.budget }
+        requires { IsBudget goal.now.asked.budget }
         ensures { IfOk result (λ came. Steps goal.now (MinimalTo goal.now self.old.items) self.old came self.new) }
     {
         let count = self.items.len();
@@ -252,7 +252,7 @@ impl Search {
     /// # Errors
     /// Out of memory.
     pub(crate) fn settle(&mut self, alloc: Global, goal: &Goal<'_>) -> Result<(), AllocError>
-        requires budget { IsBudget goal.now.budget }
+        requires budget { IsBudget goal.now.asked.budget }
         requires alike { AlikeTo goal.now self.old.items }
         ensures { OnOk result (SearchSettles goal.now self.old self.new) }
     {

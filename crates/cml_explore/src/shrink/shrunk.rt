@@ -2,11 +2,11 @@
 
 ghost use Rattle.std.specs.Prelude.{◌≡◌, ◌≤◌, ◌-◌, IfOk, IfErr};
 ghost use Rattle.cml_hub.specs.Kept.{IsBudget};
-ghost use Rattle.cml_explore.specs.{ShrinkEnds.{IsRefused}, Shrinking.{IsShrunk}, Searching.{AlikeTo, SearchFinds}};
+ghost use Rattle.cml_explore.specs.{ShrinkEnds.{IsNotGiven}, Shrinking.{IsShrunk}, Searching.{AlikeTo, SearchFinds}};
 
 use crate::shrink::fault::ShrinkFault;
 use crate::shrink::gather::{gather, halve, thin};
-use crate::shrink::replay::{Goal, end_details};
+use crate::shrink::replay::{Asked, Goal, count_given, end_details};
 use crate::shrink::search::{Search, begin};
 use cml_check::Prog;
 use cml_hub::Item;
@@ -57,7 +57,7 @@ fn shrunk_by(search: Search, tries: u64) -> Shrunk
 
 // Searches from the given items on.
 fn find(alloc: Global, goal: &Goal<'_>, given: &[Item], tries: u64) -> Result<Search, AllocError>
-    requires budget { IsBudget goal.now.budget }
+    requires budget { IsBudget goal.now.asked.budget }
     requires alike { AlikeTo goal.now given.now }
     ensures { IfOk result (λ search. SearchFinds goal.now given.now tries search) }
 {
@@ -73,29 +73,32 @@ fn find(alloc: Global, goal: &Goal<'_>, given: &[Item], tries: u64) -> Result<Se
 /// A schedule of the program that ends as the given one does: it can be followed from the start, it is not longer than the given one, and
 /// no single item, and no single thread's items from some point on, can be left out of it, unless all tries were used. A try is a replay of
 /// a schedule that is not longer than the shortest so far; the given one is replayed once more at first. Turns of one thread are put
-/// together where that makes no difference to how the run ends.
+/// together where that makes no difference to how the run ends. Where it is to stop, it breaks what the given one breaks where that stops, and the
+/// items behind that are left out from the beginning.
 ///
-/// It makes at most `tries` + 1 replays (twice as many where threads end at faults), and takes memory for a replay and two schedules.
+/// It makes at most `tries` + 1 replays (twice as many where threads end at faults; and three more where it is to stop), and takes memory for a
+/// replay and two schedules.
 ///
 /// # Errors
-/// The first of the given items that is not allowed where it stands; or out of memory.
+/// The first of the given items that is not allowed where it stands; that it is to stop, and does not; or out of memory.
 pub fn shrink(
     alloc: Global,
     program: &Prog,
-    budget: u64,
+    asked: Asked<'_>,
     items: &[Item],
-    tries: u64,
 ) -> Result<Shrunk, ShrinkFault>
-    requires { IsBudget budget }
-    ensures ok { IfOk result (λ found. IsShrunk program.now budget items.now tries found) }
-    ensures err { IfErr result (λ why. IsRefused program.now items.now why) }
+    requires { IsBudget asked.budget }
+    ensures ok { IfOk result (λ found. IsShrunk program.now asked.entry items.now found) }
+    ensures err { IfErr result (λ why. IsNotGiven program.now asked.entry items.now why) }
 {
-    let details = end_details(alloc, program, budget, items)?;
+    let count = count_given(alloc, program, &asked, items)?;
+    let given = &items[..count];
+    let details = end_details(alloc, program, &asked, given)?;
     let goal = Goal {
         program,
-        budget,
+        asked,
         details: details.as_slice(),
     };
-    let search = find(alloc, &goal, items, tries)?;
-    Ok(shrunk_by(search, tries))
+    let search = find(alloc, &goal, given, asked.tries)?;
+    Ok(shrunk_by(search, asked.tries))
 }

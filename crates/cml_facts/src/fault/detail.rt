@@ -73,6 +73,8 @@ pub enum Detail {
     Full,
     /// So many threads ended at a fault.
     Faults(usize),
+    /// It breaks the property of this number. (This crate knows no properties: whoever holds the run against them says so.)
+    Breaks(usize),
 }
 
 /// How the run ended.

@@ -6,7 +6,7 @@ ghost use Rattle.cml_value.specs.Group.{bases as bases_of};
 ghost use Rattle.cml_step.specs.Machines.{plain_held};
 ghost use Rattle.cml_step.specs.declared.entry.Entry.TheVariants as entry;
 ghost use Rattle.cml_facts.specs.Standings.{call_of_machine};
-ghost use Rattle.cml_facts.specs.{FallViews.{fall_in}, Details.{AreDetails}};
+ghost use Rattle.cml_facts.specs.{FallViews.{fall_in}, Details.{AreDetails, AreFallenDetails}};
 ghost use Rattle.cml_facts.specs.Details as spec;
 
 use crate::ending::top_call;
@@ -157,6 +157,18 @@ impl Ended<'_> {
         Ok(())
     }
 
+    // What is said of the threads that ended at faults.
+    fn fallen(&self) -> Result<Vec<Detail>, AllocError>
+        ensures { IfOk result (λ details. details.items
+            ≡ spec.fallen_details self.now.hub.now.course (fall_in self.now.falls.now) 0 self.now.hub.now.course.world.threads) }
+    {
+        let mut details = Vec::new(self.alloc);
+        for t in 0..self.hub.book().next_thread().0 {
+            self.push_ended(&mut details, Tid(t))?;
+        }
+        Ok(details)
+    }
+
     // How the run ended.
     fn details(&self) -> Result<Vec<Detail>, AllocError>
         ensures { IfOk result (λ details. details.items ≡ spec.details_with self.now.hub.now (fall_in self.now.falls.now)) }
@@ -184,4 +196,20 @@ pub fn details_of(alloc: Global, hub: &Hub) -> Result<Vec<Detail>, AllocError>
         falls: &falls,
     };
     ended.details()
+}
+
+/// The threads of the run of a hub that ended at faults: how each did. Of the others nothing is said.
+///
+/// # Errors
+/// Out of memory.
+pub fn fallen_details_of(alloc: Global, hub: &Hub) -> Result<Vec<Detail>, AllocError>
+    ensures { IfOk result (λ details. AreFallenDetails hub.now details.items) }
+{
+    let falls = falls_of(alloc, hub)?;
+    let ended = Ended {
+        alloc,
+        hub,
+        falls: &falls,
+    };
+    ended.fallen()
 }

@@ -4,7 +4,7 @@ pub returns-in-Run : goal.returns-in-Run
 returns-in-Run c = rw c.in-Run.is c.run_odds.ensures
 
 pub returns-in-Replay : goal.returns-in-Replay
-returns-in-Replay c = rw c.in-Replay.is c.input_odds.ensures
+returns-in-Replay c = rw c.in-Replay.is c.replay_odds.ensures
 
 pub returns-in-Explain : goal.returns-in-Explain
 returns-in-Explain c = rw c.in-Explain.is c.input_odds.ensures

@@ -1,7 +1,7 @@
 use Rattle.std.proofs.Common.{rules, codes, [], ◌∷◌}
 use Rattle.clap.specs.Words.{Shape}
 use Rattle.std.specs.Prelude.{IfOk}
-use Rattle.cml_arguments.specs.Words.{any_rule, command_of, count_rule, file_rule, flag_rule, runs_rule, with_order, with_rule, workers_rule, IsShapedAs}
+use Rattle.cml_arguments.specs.Words.{any_rule, command_of, count_rule, file_rule, flag_rule, runs_rule, with_finding, with_order, with_properties, with_rule, workers_rule, IsShapedAs}
 use Rattle.cml_arguments.proofs.Added.{helped}
 use Rattle.cml_arguments.proofs.table.explore.Goals as goal
 
@@ -31,4 +31,5 @@ returns c =
     let three : IfOk c.with_arg-command-3.result (IsShapedAs third) = c.with_arg-command-3.ensures (count_rule (codes "steps")) second (search (rules, helped)) two in
     let four : IfOk c.with_arg-command-4.result (IsShapedAs fourth) = c.with_arg-command-4.ensures (workers_rule (codes "workers")) third (search (rules, helped)) three in
     let five : IfOk c.with_arg-command-5.result (IsShapedAs fifth) = c.with_arg-command-5.ensures (flag_rule (codes "picks")) fourth (search (rules, helped)) four in
-    c.finding.ensures (with_order fifth) (c.ordering.ensures fifth five)
+    let finds : IfOk c.finding-command.result (IsShapedAs (with_finding (with_order fifth))) = c.finding-command.ensures (with_order fifth) (c.ordering.ensures fifth five) in
+    c.printing_alike.ensures (with_properties (with_finding (with_order fifth))) (c.holding.ensures (with_finding (with_order fifth)) finds)

@@ -1,7 +1,7 @@
 use Rattle.std.proofs.Common.{rules, codes, [], ◌∷◌}
 use Rattle.clap.specs.Words.{Shape}
 use Rattle.std.specs.Prelude.{IfOk}
-use Rattle.cml_arguments.specs.Words.{any_rule, command_of, count_rule, file_rule, option_rule, with_end, with_order, with_rule, workers_rule, IsShapedAs}
+use Rattle.cml_arguments.specs.Words.{any_rule, command_of, count_rule, file_rule, option_rule, with_end, with_order, with_properties, with_rule, with_stop, workers_rule, IsShapedAs}
 use Rattle.cml_arguments.proofs.Added.{helped}
 use Rattle.cml_arguments.proofs.table.run.Goals as goal
 
@@ -35,4 +35,6 @@ returns c =
     let four : IfOk c.with_arg-command-4.result (IsShapedAs fourth) = c.with_arg-command-4.ensures (count_rule (codes "watch")) third c.watch.ensures three in
     let five : IfOk c.with_arg-command-5.result (IsShapedAs fifth) = c.with_arg-command-5.ensures (option_rule (codes "record")) fourth c.record.ensures four in
     let six : IfOk c.with_arg-command-6.result (IsShapedAs sixth) = c.with_arg-command-6.ensures (option_rule (codes "draw")) fifth (search (rules, helped)) five in
-    c.explaining.ensures (with_end (with_order sixth)) (c.ending.ensures (with_order sixth) (c.ordering-command.ensures sixth six))
+    let ends : IfOk c.ending-command.result (IsShapedAs (with_end (with_order sixth))) = c.ending-command.ensures (with_order sixth) (c.ordering.ensures sixth six) in
+    let holds : IfOk c.holding.result (IsShapedAs (with_properties (with_end (with_order sixth)))) = c.holding.ensures (with_end (with_order sixth)) ends in
+    c.explaining.ensures (with_stop (with_properties (with_end (with_order sixth)))) (c.stopping.ensures (with_properties (with_end (with_order sixth))) holds)

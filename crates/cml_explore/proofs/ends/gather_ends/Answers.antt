@@ -18,6 +18,6 @@ pub loop-schedule-preserved : goal.loop-schedule-preserved
 loop-schedule-preserved c = record {
   made = gathered_next (λ schedule. schedule.items) c.args.program.now c.args.servers.now c.args.schedules.now c.loop-schedule.schedule-index c.schedule-item.result
       c.as_slice.result.now c.runs-number.result c.loop-schedule.made c.add_end.new.self (omega arith) (c.as_slice.ensures.value ∙ ap (λ schedule. schedule.items) c.schedule-item.is)
-      c.runs-number.ensures c.loop-schedule.invariant.made (rw c.asked_of-asked.ensures at c.in_ok-add_end.ensures);
+      c.runs-number.ensures c.loop-schedule.invariant.made (rw c.asked_of-asked.ensures.servers at c.in_ok-add_end.ensures);
   count = ap (λ (m : PlainExplored). m.runs) c.in_ok-add_end.ensures.2 ∙ ap (λ n. n + 1) c.loop-schedule.invariant.count;
 }

@@ -1,14 +1,7 @@
-use Rattle.std.proofs.Common.{◌≡◌, ap, subst, sym, ◌∙◌}
-use Rattle.std.specs.Prelude.{Option, option_map}
-use Rattle.cml_explore.specs.SeedRuns.{IsSeedRun}
-use Rattle.cml_explore.specs.declared.seed.order.Order.{Order}
-use Rattle.cml_explore.proofs.StopLemmas.{stop_so}
+use Rattle.cml_explore.proofs.StopLemmas.{stop_by_hub}
 use Rattle.cml_explore.proofs.stop.stop_at.Goals as goal
 
 pub returns : goal.returns
 returns c =
-    let asked = c.args.asked.now in (
-      c.in_ok-hub.hub,
-      subst (λ (o : Order). IsSeedRun c.args.program.now asked.budget o c.args.seed c.in_ok-hub.hub) c.of-order.ensures c.in_ok-hub.ensures,
-      stop_so asked c.args.seed c.in_ok-hub.hub _ _ _ _ c.of-order.ensures c.fate_of.ensures c.kind_of-kind.ensures c.stopped.ensures,
-    )
+    stop_by_hub c.stop_of_hub-told.result c.args.program.now c.args.asked.now c.args.seed _ c.in_ok-hub.hub c.of-order.ensures c.in_ok-hub.ensures
+    c.stop_of_hub-told.ensures

@@ -13,7 +13,7 @@ returns-in_err-told_made-in-Ok-clause-told g c =
 pub returns-in_ok-told_made-in-Ok-clause-told : goal.returns-in_ok-told_made-in-Ok-clause-told
 returns-in_ok-told_made-in-Ok-clause-told g c = (
   c.in-Ok.ensures.ok.0,
-  inl (c.in-Ok.ensures.ok.1, inl (c.args.asked.now, c.requires.asks, (c.in-Ok.made, c.in-Ok.ensures.made, c.in_ok-told_made-in-Ok.ensures))),
+  inl (c.in-Ok.ensures.ok.1, inl (c.args.asked.now, c.requires.asks, c.requires.beside, (c.in-Ok.made, c.in-Ok.ensures.made, c.in_ok-told_made-in-Ok.ensures))),
 )
 
 pub returns-in-Err-Memory-clause-told : goal.returns-in-Err-Memory-clause-told

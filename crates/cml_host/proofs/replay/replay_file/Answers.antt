@@ -1,5 +1,5 @@
 use Rattle.std.proofs.Common.{List, ℕ, inl, inr}
-use Rattle.cml_host.specs.Replaying.{ScriptReplayed}
+use Rattle.cml_host.specs.Replaying.{WantedReplayed}
 use Rattle.cml_host.specs.Replies.{passage}
 use Rattle.cml_host.specs.Scripts.{plain_script}
 use Rattle.cml_host.specs.Stores.{Content}
@@ -8,16 +8,16 @@ use Rattle.cml_host.proofs.replay.replay_file.Goals as goal
 
 pub returns-in-Ok-clause-ran : goal.returns-in-Ok-clause-ran
 returns-in-Ok-clause-ran g c =
-    let output = passage g.O.Write.contents c.args.out.now c.replay_script.new.out in
-    let errors = passage g.E.Write.contents c.args.err.now c.replay_script.new.err in
+    let output = passage g.O.Write.contents c.args.out.now c.replay_wanted.new.out in
+    let errors = passage g.E.Write.contents c.args.err.now c.replay_wanted.new.err in
     let s = plain_script c.in-Ok.script in
     let options = c.args.options.now in
-    let new = g.S.Store.holds c.replay_script.new.store in
+    let new = g.S.Store.holds c.replay_wanted.new.store in
     inl (
       s,
       c.in-Ok.ensures.ok,
-      store_from (λ (held : List ℕ → Content). ScriptReplayed c.args.explains s options (held options.schedule.now) output errors (record { before = held; after = new }) c.replay_script.result)
-          (g.S.Store.holds c.args.store.now) (g.S.Store.holds c.open_script.new.store) c.open_script.ensures.same c.replay_script.ensures.ran,
+      store_from (λ (held : List ℕ → Content). WantedReplayed c.args.explains s options output errors (record { before = held; after = new }) c.replay_wanted.result)
+          (g.S.Store.holds c.args.store.now) (g.S.Store.holds c.open_script.new.store) c.open_script.ensures.same c.replay_wanted.ensures.ran,
     )
 
 pub returns-in-Err-clause-ran : goal.returns-in-Err-clause-ran

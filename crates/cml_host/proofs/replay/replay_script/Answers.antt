@@ -13,7 +13,7 @@ pub returns-in-Ok-clause-ran : goal.returns-in-Ok-clause-ran
 returns-in-Ok-clause-ran g c =
     let s = plain_script c.args.script in
     let store : Shelf = record { before = g.S.Store.holds c.args.store.now; after = g.S.Store.holds c.replay_program.new.store } in
-    replayed c.args.explains s c.args.options.now c.in-Ok.servers.items (plain_asked c.ask-program.result.1) c.ask-program.result.0
+    replayed c.args.explains s c.args.wanted.items c.args.options.now c.in-Ok.servers.items (plain_asked c.ask-program.result.1) c.ask-program.result.0
     (g.S.Store.holds c.args.store.now c.args.options.now.schedule.now) (passage g.O.Write.contents c.args.out.now c.replay_program.new.out)
     (passage g.E.Write.contents c.args.err.now c.replay_program.new.err) store c.replay_program.result
     (subst (λ (ns : List (Bor (List ℕ))). first_unknown s (map (λ name. name.now) ns) ≡ None) c.as_slice.ensures.value c.in-Ok.ensures.known)

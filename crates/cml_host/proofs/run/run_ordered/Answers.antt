@@ -1,22 +1,11 @@
-use Rattle.std.proofs.Common.{List, [], ℕ, inl, inr, refl, subst}
-use Rattle.cml_host.specs.Closed.{plain_asked}
-use Rattle.cml_host.specs.Replies.{IsCarriedOut, passage, plain_reply, runs_out}
-use Rattle.cml_host.specs.Running.{plain_saving}
-use Rattle.cml_host.specs.Stores.{Shelf}
-use Rattle.cml_host.proofs.RanLemmas.{ordered_told}
+use Rattle.std.proofs.Common.{[], inl, inr, refl}
+use Rattle.cml_host.specs.Replies.{runs_out}
 use Rattle.cml_host.proofs.run.run_ordered.Goals as goal
 
 pub returns-in-Ok-clause-ran : goal.returns-in-Ok-clause-ran
 returns-in-Ok-clause-ran g c =
-    let h = c.in-Ok.hub in
-    let output = passage g.O.Write.contents c.args.out.now c.carry_out-status.new.out in
-    let errors = passage g.E.Write.contents c.args.err.now c.carry_out-status.new.err in
-    let store : Shelf = record { before = g.S.Store.holds c.args.store.now; after = g.S.Store.holds c.carry_out-status.new.store } in
-    let told = ordered_told (plain_asked c.args.asked.now) (plain_saving c.args.saving.now) h c.end-made.result c.end-made.ensures.ok c.end-made.ensures.err in (
-      plain_reply h.course.output c.end-made.result,
-      inl (h, rw c.unwrap_or-seed.ensures at c.in-Ok.ensures, told),
-      subst (λ (ts : List ℕ). IsCarriedOut (plain_reply ts c.end-made.result) output errors store c.carry_out-status.result) c.out.ensures c.carry_out-status.ensures.carried,
-    )
+    let told = c.tell_end-status.ensures.told in
+    (told.0, inl (c.in-Ok.hub, rw c.unwrap_or-seed.ensures at c.in-Ok.ensures, told.1), told.2)
 
 pub returns-clause-ran : goal.returns-clause-ran
 returns-clause-ran g c = (runs_out [], inr refl, c.carry_out.ensures.carried)

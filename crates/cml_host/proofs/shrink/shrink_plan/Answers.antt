@@ -1,7 +1,7 @@
 use Rattle.std.proofs.Common.{rules, ◌≡◌, List, subst}
 use Rattle.cml_hub.specs.Kept.{IsFirstBad}
 use Rattle.cml_schedule.specs.declared.item.Item.{Item}
-use Rattle.cml_explore.specs.ShrinkEnds.{IsRefused}
+use Rattle.cml_explore.specs.ShrinkEnds.{IsNotGiven}
 use Rattle.cml_explore.specs.declared.shrink.fault.ShrinkFault.{ShrinkFault}
 use Rattle.cml_host.proofs.ItemLemmas.{bad_within}
 use Rattle.cml_host.proofs.shrink.shrink_plan.Goals as goal
@@ -12,4 +12,4 @@ tell_bad-requires-clause-there c =
     let all : c.as_slice-items.result.now ≡ c.args.both.plan.items = search rules in
     rw c.in-Err-BadItem.field-0-is (bad_within p c.args.both.plan.items c.in-Err-BadItem.number
     (subst (λ (xs : List Item). IsFirstBad p xs c.in-Err-BadItem.number) all
-    (subst (λ (why : ShrinkFault). IsRefused p c.as_slice-items.result.now why) c.in-Err-BadItem.field-0-is c.in-Err-BadItem.ensures.err).0))
+    (subst (λ (why : ShrinkFault). IsNotGiven p c.args.asked c.as_slice-items.result.now why) c.in-Err-BadItem.field-0-is c.in-Err-BadItem.ensures.err).0))

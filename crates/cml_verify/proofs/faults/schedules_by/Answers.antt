@@ -1,6 +1,7 @@
-use Rattle.std.proofs.Common.{◌≡◌, Some, slice_get, [], ◌∷◌, length, map, refl, ap, ◌∙◌, arith}
+use Rattle.std.proofs.Common.{◌≡◌, ℕ, Some, slice_get, get_or, [], ◌∷◌, map, ap, ◌∙◌, arith}
 use Rattle.std.proofs.lemmas.List.{map-append}
-use Rattle.std.proofs.lemmas.Option.{slice_get_read, slice_get_within}
+use Rattle.std.proofs.lemmas.Option.{slice_get-get_or, slice_get_within}
+use Rattle.cml_value.specs.declared.number.Tid.{Tid}
 use Rattle.cml_step.specs.Calls.{text_of}
 use Rattle.cml_verify.specs.Places.{all_at}
 use Rattle.cml_verify.specs.{Cores.{program_system}, Kept.{core_kept}, Falling.{FallsFrom}}
@@ -12,8 +13,9 @@ schedule_by-requires-clause-within c =
     let keys = c.args.found.now.kept.keys in
     let told = c.args.told.now in
     let i = c.loop-one.one-index in
-    let f = c.one-item.result in
-    let at : slice_get told i ≡ Some f = slice_get_read told (length told) i f refl (omega arith) c.one-item.is in
+    let none : ℕ × Tid = (0, record { 0 = 0 }) in
+    let f : ℕ × Tid = get_or told i none in
+    let at : slice_get told i ≡ Some f = slice_get-get_or told i none (omega arith) in
     let a = all_at (FallsFrom c.args.system.now.program c.args.system.now.with_output keys) told i f c.requires.each at in
     slice_get_within keys f.0 a.one a.at
 
@@ -28,8 +30,9 @@ loop-one-preserved c =
     let p = c.args.system.now.program in
     let told = c.args.told.now in
     let i = c.loop-one.one-index in
-    let f = c.one-item.result in
+    let none : ℕ × Tid = (0, record { 0 = 0 }) in
+    let f : ℕ × Tid = get_or told i none in
     by_more (program_system (text_of p) c.args.system.now.with_output) (map (core_kept p) c.args.found.now.kept.keys) told i f (map (λ schedule. schedule.items) c.loop-one.schedules.items)
     (map (λ schedule. schedule.items) c.push.new.self.items) c.in_ok-schedule.schedule.items c.loop-one.invariant
     (ap (map (λ schedule. schedule.items)) c.in_ok-push.ensures.items ∙ map-append (λ schedule. schedule.items) c.loop-one.schedules.items (c.in_ok-schedule.schedule ∷ []))
-    (slice_get_read told (length told) i f refl (omega arith) c.one-item.is) c.in_ok-schedule.ensures
+    (slice_get-get_or told i none (omega arith)) c.in_ok-schedule.ensures

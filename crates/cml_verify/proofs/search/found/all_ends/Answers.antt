@@ -1,5 +1,5 @@
 use Rattle.std.proofs.Common.{map}
-use Rattle.cml_verify.proofs.Ends.{both_ok, has_each_end}
+use Rattle.cml_verify.proofs.Wholes.{both_ok, has_each_end}
 use Rattle.cml_verify.proofs.search.found.all_ends.Goals as goal
 
 pub returns-clause-ends : goal.returns-clause-ends

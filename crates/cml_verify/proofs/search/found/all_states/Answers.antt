@@ -1,5 +1,5 @@
 use Rattle.std.proofs.Common.{map}
-use Rattle.cml_verify.proofs.Ends.{both_ok, has_each_state}
+use Rattle.cml_verify.proofs.Wholes.{both_ok, has_each_state}
 use Rattle.cml_verify.proofs.search.found.all_states.Goals as goal
 
 pub returns-clause-all : goal.returns-clause-all

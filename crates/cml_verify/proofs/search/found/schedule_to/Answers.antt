@@ -1,6 +1,6 @@
 use Rattle.std.proofs.Common.{map, arith}
 use Rattle.std.proofs.lemmas.List.{length-map}
-use Rattle.cml_verify.proofs.Ends.{one_ok}
+use Rattle.cml_verify.proofs.Wholes.{one_ok}
 use Rattle.cml_verify.proofs.Broad.{fewest_at}
 use Rattle.cml_verify.proofs.search.found.schedule_to.Goals as goal
 

@@ -1,0 +1,10 @@
+use Rattle.std.proofs.Common.{rules, ◌≡◌}
+use Rattle.cml_host.specs.Wanted.{file_line}
+use Rattle.cml_host.proofs.RefusedLemmas.{line_is}
+use Rattle.cml_host.proofs.wanted.told_file.Goals as goal
+
+pub returns : goal.returns
+returns c =
+    let line = file_line c.args.why c.args.at in
+    let same : c.as_bytes.result.now ≡ line = search rules in
+    line_is c.args.explains c.as_bytes.result.now line same c.explained.result c.explained.ensures

@@ -1,0 +1,4 @@
+pub mod Finishes
+pub mod Judgements
+pub mod Spots
+pub mod Stops
