@@ -11,7 +11,7 @@ use Rattle.cml_book.specs.Keeping.{NacksLive, lives}
 use Rattle.cml_book.proofs.NackLemmas.{nacks-resume, get-set_other, with_each-other, with_each-named, lives-live, lives-le}
 use Rattle.cml_rules.specs.Rules.{Sequel, branches, Offers, Waits, Synchronizes, alone, together}
 use Rattle.cml_rules.specs.Laws.{Step}
-use Rattle.cml_rules.specs.Firing.{around, Party, those_in, FiresBy, HeldBy, NacksSettle}
+use Rattle.cml_rules.specs.Firing.{Party, those_in, FiresBy, HeldBy, NacksSettle}
 use Rattle.cml_rules.proofs.Derivations.{below}
 use Rattle.cml_rules.proofs.Losing.{branches_are}
 use Rattle.cml_rules.proofs.Committing.{alone_nacks, meet_differ}

@@ -11,3 +11,10 @@ pub mod Following
 pub mod Quiet
 pub mod Running
 pub mod Taking
+pub mod Forcing
+pub mod Acting
+pub mod Asking
+pub mod Raising
+pub mod Turning
+pub mod Handing
+pub mod Waited

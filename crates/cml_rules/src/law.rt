@@ -1,12 +1,15 @@
 //! Laws of the rules, each a function that does nothing and whose contract is the law.
 
-ghost use Rattle.std.specs.Prelude.{List};
-ghost use Rattle.cml_value.specs.{Value.{PlainBase}, Group.{PlainGroup, choose, groups}};
-ghost use Rattle.cml_scan.specs.World.{PlainWorld};
+ghost use Rattle.std.specs.Prelude.{◌≡◌, ℕ, List, Contains, Some, slice_get};
+ghost use Rattle.cml_value.specs.{Value.{PlainBase, PlainFunction, PlainEvent}, Group.{PlainGroup, choose, groups}};
+ghost use Rattle.cml_scan.specs.World.{running, PlainWorld};
+ghost use Rattle.cml_step.specs.Asks.{PlainAsk};
 ghost use Rattle.cml_book.specs.Keeping.{NacksLive};
 ghost use Rattle.cml_rules.specs.{Rules.{Sequel, Offers}, Laws.{Step, OffersAreLeaves, StepsAreRows, StepsAreCommits}};
 ghost use Rattle.cml_rules.specs.Firing.{AreTwoThreads, TakesOne, FiresOutside, NacksSettle};
 ghost use Rattle.cml_rules.specs.Runs.{RunsTakeSteps, StepsCanBeTaken, TimeWaits, TheEndIsStill};
+ghost use Rattle.cml_rules.specs.Turns.{AsksAreActs, ForcesInTurn, TurnsAct, NoTurnSynchronizes};
+ghost use Rattle.cml_rules.specs.Waiting.{PendingAreForced};
 
 /// What the rules let a group offer are its leaves, each once, with the functions and the nacks of the leaf.
 pub fn offers_are_leaves()
@@ -61,4 +64,32 @@ pub fn steps_can_be_taken()
 pub fn time_waits_for_steps()
     ensures time { TimeWaits }
     ensures end { TheEndIsStill }
+{}
+
+/// What a running thread asks and is not refused is what a rule says. What a rule says is done, but where a limit of this project forbids it.
+/// An iPut and an mPut that raise Put are refused for that, and nothing else is.
+pub fn asks_are_acts()
+    ensures { (w : PlainWorld) (t : ℕ) (a : PlainAsk) → slice_get w.threads t ≡ Some running → AsksAreActs w t a }
+{}
+
+/// What an event becomes by the rules is what it becomes where its functions are called one after another, the leftmost of the outermost
+/// first, and the group enters then.
+pub fn events_are_forced_in_turn()
+    ensures { (calls : List (PlainFunction × PlainEvent)) (now : ℕ) (e : PlainEvent) (g : PlainGroup) → ForcesInTurn (λ f new. Contains calls (f, new)) now e g }
+{}
+
+/// Each turn of a schedule that can be followed does what a rule says of what its slice asks; or that is refused, and the thread ends.
+pub fn turns_act()
+    ensures { TurnsAct }
+{}
+
+/// No turn synchronizes: what the rules allow before it they allow after it, with the same values.
+pub fn no_turn_synchronizes()
+    ensures { NoTurnSynchronizes }
+{}
+
+/// The group that a thread of a run waits on is one that the rules give: the thread has called sync on an event, and this became the group by
+/// what the functions returned that were called for it, when the wait began.
+pub fn pending_are_forced()
+    ensures { PendingAreForced }
 {}
