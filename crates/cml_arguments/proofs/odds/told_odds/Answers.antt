@@ -16,10 +16,10 @@ pub returns-in-Verify : goal.returns-in-Verify
 returns-in-Verify c = rw c.in-Verify.is c.verify_odds.ensures
 
 pub returns-in-Shrink : goal.returns-in-Shrink
-returns-in-Shrink c = rw c.in-Shrink.is c.input_odds.ensures
+returns-in-Shrink c = rw c.in-Shrink.is c.input_odds-in-Shrink.ensures
 
 pub returns-in-Draw : goal.returns-in-Draw
-returns-in-Draw c = rw c.in-Draw.is c.input_odds.ensures
+returns-in-Draw c = rw c.in-Draw.is c.input_odds-in-Draw.ensures
 
 pub returns-in-Step : goal.returns-in-Step
 returns-in-Step c = rw c.in-Step.is c.step_odds.ensures

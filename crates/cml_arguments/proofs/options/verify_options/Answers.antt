@@ -10,8 +10,8 @@ number-requires c = number_served _ _ (codes "states") _ _ c.requires refl refl
 pub flag-requires : goal.flag-requires
 flag-requires c = flag_served _ _ (codes "outcomes") c.requires refl
 
-pub flag-2-requires : goal.flag-2-requires
-flag-2-requires c = flag_served _ _ (codes "endless") c.requires refl
+pub flag-requires-2 : goal.flag-requires-2
+flag-requires-2 c = flag_served _ _ (codes "endless") c.requires refl
 
 pub returns : goal.returns
 returns c = record {
