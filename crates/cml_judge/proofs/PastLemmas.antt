@@ -1,5 +1,5 @@
 -- How long an output has to be for what was printed to break a property.
-use Rattle.std.proofs.Common.{◌≡◌, ℕ, zero, suc, ◌+◌, ◌<◌, ◌≤◌, ◌==◌, Bool, true, false, not, cond, ◌||◌}
+use Rattle.std.proofs.Common.{◌≡◌, ◌⊎◌, ℕ, zero, suc, ◌+◌, ◌<◌, ◌≤◌, ◌==◌, Bool, true, false, not, cond, ◌||◌}
 use Rattle.std.proofs.Common.{List, [], ◌∷◌, ◌++◌, length, get_or, take, drop, map, Option, Some, None, refl, sym, ap, ◌∙◌, subst, arith, inl, inr}
 use Rattle.std.specs.Prelude.{◌↔◌, nat_lt, min, IsTrue, IsFalse, MatchOption, Contains}
 use Rattle.std.specs.List.{All}
@@ -23,7 +23,7 @@ use Rattle.cml_properties.specs.declared.property.Property.{Property}
 use Rattle.cml_properties.specs.declared.property.Property.TheVariants.{Never, Always, Once, Before, SameLines, SameOrder, Empty}
 use Rattle.cml_properties.proofs.HoldLemmas.{kept_front, kept_sooner}
 use Rattle.cml_judge.specs.Spots.{line_start}
-use Rattle.cml_judge.specs.Stops.{BreaksOne, earlier, earliest, is_within}
+use Rattle.cml_judge.specs.Stops.{BreaksOne, earlier, earliest, is_place_within}
 use Rattle.cml_judge.proofs.LineLemmas.{AreLines, lines_of_both, within_by_byte}
 
 -- ---- the lines of a text, each with its value, are what they are
@@ -118,7 +118,7 @@ pub record GoesOnBehind (text begin : List ℕ) (run : Run) : Type 0 where
   pub split : text ≡ begin ++ more
   pub whole : AreLines begin
   pub output : run.output.now ≡ text
-  pub open_ : run.finish ≡ GoesOn
+  pub going : run.finish ≡ GoesOn
 
 lines_split : (text begin : List ℕ) (run : Run) (g : GoesOnBehind text begin run) → lines run.output.now ≡ lines begin ++ lines g.more
 lines_split text begin run g = ap lines (g.output ∙ g.split) ∙ lines_of_both begin g.more g.whole
@@ -129,15 +129,15 @@ begin_lines text begin run g all are =
     first_lines (lines begin) (lines g.more) all (subst (λ (ls : List (List ℕ)). AreLinesOf ls all) (lines_split text begin run g) are)
 
 tells_one : SpellsOneAtMost → (text begin : List ℕ) (run : Run) → GoesOnBehind text begin run → (property : Property) (line : Option ℕ) (printed : List PlainLine) →
-    IsJudged (lines text) run property line → AreLinesOf (lines begin) printed → keeps property printed GoesOn ≡ not (is_within line (length (lines begin)))
+    IsJudged (lines text) run property line → AreLinesOf (lines begin) printed → keeps property printed GoesOn ≡ not (is_place_within line (length (lines begin)))
 tells_one once text begin run g property None printed k are =
     let same : printed ≡ take (length (lines begin)) k.printed =
     same_lines_of once (lines begin) printed (take (length (lines begin)) k.printed) are (begin_lines text begin run g k.printed k.are) in
-    ap (λ ps. keeps property ps GoesOn) same ∙ kept_within property k.printed run.finish (length (lines begin)) g.open_ k.kept
+    ap (λ ps. keeps property ps GoesOn) same ∙ kept_within property k.printed run.finish (length (lines begin)) g.going k.kept
 tells_one once text begin run g property (Some line) printed (inl b) are =
     let same : printed ≡ take (length (lines begin)) b.printed =
     same_lines_of once (lines begin) printed (take (length (lines begin)) b.printed) are (begin_lines text begin run g b.printed b.are) in
-    ap (λ ps. keeps property ps GoesOn) same ∙ broken_within property b.printed run.finish (length (lines begin)) line g.open_ b.broken
+    ap (λ ps. keeps property ps GoesOn) same ∙ broken_within property b.printed run.finish (length (lines begin)) line g.going b.broken
 tells_one once text begin run g property (Some line) printed (inr apart) are =
     absurd (apart.0 (subst (λ (ls : List (List ℕ)). Agree property (lines text) ls) (ap lines (sym g.output)) (agree_self property (lines text))))
 
@@ -155,7 +155,7 @@ or_nothing : (b : Bool) → b ≡ (b || false)
 or_nothing true = refl
 or_nothing false = refl
 
-earlier_within : (a b : Option ℕ) (n : ℕ) → is_within (earlier a b) n ≡ (is_within a n || is_within b n)
+earlier_within : (a b : Option ℕ) (n : ℕ) → is_place_within (earlier a b) n ≡ (is_place_within a n || is_place_within b n)
 earlier_within None b n = refl
 earlier_within (Some a) None n = or_nothing (nat_lt a n)
 earlier_within (Some a) (Some b) n =
@@ -177,27 +177,27 @@ not_not_so a b e broken = not-false b (sym e ∙ broken)
 
 past_if_broken : SpellsOneAtMost → (text begin : List ℕ) (run : Run) → GoesOnBehind text begin run → (properties : List Property) (judged : List (Option ℕ)) →
     AreJudged (lines text) run properties judged → (property : Property) (k : ℕ) → k < length properties → get_or properties k property ≡ property →
-    (printed : List PlainLine) → AreLinesOf (lines begin) printed → keeps property printed GoesOn ≡ false → is_within (earliest judged) (length (lines begin)) ≡ true
+    (printed : List PlainLine) → AreLinesOf (lines begin) printed → keeps property printed GoesOn ≡ false → is_place_within (earliest judged) (length (lines begin)) ≡ true
 past_if_broken once text begin run g [] judged so property k lt at printed are broken = absurd (omega arith)
 past_if_broken once text begin run g (p ∷ ps) [] so property k lt at printed are broken = absurd so
 past_if_broken once text begin run g (p ∷ ps) (line ∷ judged) so property zero lt at printed are broken =
     let n = length (lines begin) in
-    let here : is_within line n ≡ true =
-    not_not_so (keeps p printed GoesOn) (is_within line n) (tells_one once text begin run g p line printed so.0 are) (ap (λ q. keeps q printed GoesOn) at ∙ broken) in
-    earlier_within line (earliest judged) n ∙ ap (λ t. t || is_within (earliest judged) n) here
+    let here : is_place_within line n ≡ true =
+    not_not_so (keeps p printed GoesOn) (is_place_within line n) (tells_one once text begin run g p line printed so.0 are) (ap (λ q. keeps q printed GoesOn) at ∙ broken) in
+    earlier_within line (earliest judged) n ∙ ap (λ t. t || is_place_within (earliest judged) n) here
 past_if_broken once text begin run g (p ∷ ps) (line ∷ judged) so property (suc k) lt at printed are broken =
     let n = length (lines begin) in
     earlier_within line (earliest judged) n
-    ∙ or_right (is_within line n) (is_within (earliest judged) n) (past_if_broken once text begin run g ps judged so.1 property k (omega arith) at printed are broken)
+    ∙ or_right (is_place_within line n) (is_place_within (earliest judged) n) (past_if_broken once text begin run g ps judged so.1 property k (omega arith) at printed are broken)
 
 broken_if_past : SpellsOneAtMost → (text begin : List ℕ) (run : Run) → GoesOnBehind text begin run → (properties : List Property) (judged : List (Option ℕ)) →
-    AreJudged (lines text) run properties judged → is_within (earliest judged) (length (lines begin)) ≡ true → BreaksOne properties begin
+    AreJudged (lines text) run properties judged → is_place_within (earliest judged) (length (lines begin)) ≡ true → BreaksOne properties begin
 broken_if_past once text begin run g [] [] so past = cc
 broken_if_past once text begin run g [] (line ∷ judged) so past = absurd so
 broken_if_past once text begin run g (p ∷ ps) [] so past = absurd so
 broken_if_past once text begin run g (p ∷ ps) (line ∷ judged) so past =
     let n = length (lines begin) in
-    elim (or_either (is_within line n) (is_within (earliest judged) n) (sym (earlier_within line (earliest judged) n) ∙ past)) [
+    elim (or_either (is_place_within line n) (is_place_within (earliest judged) n) (sym (earlier_within line (earliest judged) n) ∙ past)) [
       | inl here ↦
           let own = lines_so_far text begin run g p line so.0 in
           (p, (0, omega arith, refl), (own.0, own.1, tells_one once text begin run g p line own.0 so.0 own.1 ∙ ap not here))
@@ -214,15 +214,15 @@ StartsSo text None at = at ≡ None
 StartsSo text (Some line) at = MatchOption at (length (lines text) ≤ line) (λ byte. (line < length (lines text)) × (byte ≡ line_start (lines text) line))
 
 by_byte : (text begin more : List ℕ) (line at : Option ℕ) → StartsSo text line at → text ≡ begin ++ more → AreLines begin →
-    is_within line (length (lines begin)) ≡ is_within at (length begin)
-by_byte text begin more None at none split whole = ap (λ a. is_within a (length begin)) (sym none)
+    is_place_within line (length (lines begin)) ≡ is_place_within at (length begin)
+by_byte text begin more None at none split whole = ap (λ a. is_place_within a (length begin)) (sym none)
 by_byte text begin more (Some line) None few split whole =
     le-ltb line (length (lines begin)) (omega (arith, ap length (ap lines split ∙ lines_of_both begin more whole), length-append (lines begin) (lines more)))
 by_byte text begin more (Some line) (Some byte) there split whole =
     within_by_byte text begin more line split whole there.0 ∙ ap (λ b. nat_lt b (length begin)) (sym there.1)
 
 pub tells_begin : SpellsOneAtMost → (text begin : List ℕ) (run : Run) → GoesOnBehind text begin run → (properties : List Property) (judged : List (Option ℕ)) (at : Option ℕ) →
-    AreJudged (lines text) run properties judged → StartsSo text (earliest judged) at → BreaksOne properties begin ↔ IsTrue (is_within at (length begin))
+    AreJudged (lines text) run properties judged → StartsSo text (earliest judged) at → BreaksOne properties begin ↔ IsTrue (is_place_within at (length begin))
 tells_begin once text begin run g properties judged at so starts =
     let same = by_byte text begin g.more (earliest judged) at starts g.split g.whole in (
       λ broken. sym same ∙ past_if_broken once text begin run g properties judged so broken.0 broken.1.0 broken.1.1 broken.1.2 broken.2.0 broken.2.1 broken.2.2,

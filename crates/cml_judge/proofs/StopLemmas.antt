@@ -18,7 +18,7 @@ use Rattle.cml_properties.specs.Judged.{AreJudged}
 use Rattle.cml_properties.specs.declared.breach.Run.{Run as Printed}
 use Rattle.cml_properties.specs.declared.property.Finish.TheVariants.{GoesOn}
 use Rattle.cml_properties.specs.declared.property.Property.{Property}
-use Rattle.cml_judge.specs.Stops.{BreaksOne, IsBrokenAfter, StopsAfter, earlier, earliest, is_within, TellsBreaks, has_come, HasCome, ComesBehind, ComesAfter}
+use Rattle.cml_judge.specs.Stops.{BreaksOne, IsBrokenAfter, StopsAfter, earlier, earliest, is_place_within, TellsBreaks, has_come, HasComeBehind, ComesFirstBehind, ComesAfter}
 use Rattle.cml_judge.proofs.GrowLemmas.{begins_so, prints_whole_lines}
 use Rattle.cml_judge.proofs.PastLemmas.{StartsSo, GoesOnBehind, tells_begin}
 use Rattle.cml_judge.proofs.SpotLemmas.{leads_so}
@@ -64,18 +64,18 @@ tells_breaks once properties h text run judged at leads same output going so sta
 
 -- ---- the first item behind which it is so
 
-come_so : (at : Option ℕ) (p : Program) (items : List Item) (r : Run) → stands p items ≡ Some r → HasCome at p items → has_come at p items r ≡ true
+come_so : (at : Option ℕ) (p : Program) (items : List Item) (r : Run) → stands p items ≡ Some r → HasComeBehind at p items → has_come at p items r ≡ true
 come_so at p items r leads come = subst (λ (o : Option Run). IsSomeAnd o (λ now. IsTrue (has_come at p items now))) leads come
 
-has_come_so : (at : Option ℕ) (p : Program) (items : List Item) (r : Run) → stands p items ≡ Some r → has_come at p items r ≡ true → HasCome at p items
+has_come_so : (at : Option ℕ) (p : Program) (items : List Item) (r : Run) → stands p items ≡ Some r → has_come at p items r ≡ true → HasComeBehind at p items
 has_come_so at p items r leads come = subst (λ (o : Option Run). IsSomeAnd o (λ now. IsTrue (has_come at p items now))) (sym leads) come
 
-within_none : (at : Option ℕ) → (is_within at 0 || false) ≡ false
+within_none : (at : Option ℕ) → (is_place_within at 0 || false) ≡ false
 within_none None = refl
 within_none (Some a) = ap (λ b. b || false) (le-ltb a 0 (omega arith))
 
-pub none_come : (at : Option ℕ) (p : Program) (items : List Item) (k : ℕ) → k < 0 + 1 → HasCome at p (take k items) → ⊥
-none_come at p items zero h come = let so : (is_within at 0 || false) ≡ true = come in both_ways (is_within at 0 || false) (within_none at) so
+pub none_come : (at : Option ℕ) (p : Program) (items : List Item) (k : ℕ) → k < 0 + 1 → HasComeBehind at p (take k items) → ⊥
+none_come at p items zero h come = let so : (is_place_within at 0 || false) ≡ true = come in both_ways (is_place_within at 0 || false) (within_none at) so
 none_come at p items (suc k) h come = absurd (omega arith)
 
 -- the second hub has come as far as the items of the first
@@ -87,14 +87,14 @@ come_again first second at n come gone is =
     ∙ ap (λ xs. has_come at (text_of first.course.program) xs (run_of second.course)) gone.items)
 
 pub none_come_more : (at : Option ℕ) (p : Program) (items : List Item) (i : ℕ) (r : Run) (come : Bool) → stands p (take (i + 1) items) ≡ Some r →
-    come ≡ has_come at p (take (i + 1) items) r → come ≡ false → ((k : ℕ) → k < i + 1 → HasCome at p (take k items) → ⊥) →
-    (k : ℕ) → k < i + 1 + 1 → HasCome at p (take k items) → ⊥
+    come ≡ has_come at p (take (i + 1) items) r → come ≡ false → ((k : ℕ) → k < i + 1 → HasComeBehind at p (take k items) → ⊥) →
+    (k : ℕ) → k < i + 1 + 1 → HasComeBehind at p (take k items) → ⊥
 none_come_more at p items i r come leads is not_yet none =
-    below_more (λ k. HasCome at p (take k items) → ⊥) (i + 1) none
+    below_more (λ k. HasComeBehind at p (take k items) → ⊥) (i + 1) none
     (λ here. both_ways (has_come at p (take (i + 1) items) r) (sym is ∙ not_yet) (come_so at p (take (i + 1) items) r leads here))
 
 pub come_behind : (at : Option ℕ) (p : Program) (items : List Item) (i : ℕ) (r : Run) (come : Bool) → i < length items → stands p (take (i + 1) items) ≡ Some r →
-    come ≡ has_come at p (take (i + 1) items) r → come ≡ true → ((k : ℕ) → k < i + 1 → HasCome at p (take k items) → ⊥) → ComesBehind at p items (i + 1)
+    come ≡ has_come at p (take (i + 1) items) r → come ≡ true → ((k : ℕ) → k < i + 1 → HasComeBehind at p (take k items) → ⊥) → ComesFirstBehind at p items (i + 1)
 come_behind at p items i r come within leads is now none = record {
   within = omega arith;
   come = has_come_so at p (take (i + 1) items) r leads (sym is ∙ now);
@@ -102,12 +102,12 @@ come_behind at p items i r come within leads is now none = record {
 }
 
 pub none_come_at_all : (at : Option ℕ) (p : Program) (items all : List Item) (i : ℕ) → items ≡ all → length items ≤ i →
-    ((k : ℕ) → k < i + 1 → HasCome at p (take k all) → ⊥) → (k : ℕ) → HasCome at p (take k all) → ⊥
+    ((k : ℕ) → k < i + 1 → HasComeBehind at p (take k all) → ⊥) → (k : ℕ) → HasComeBehind at p (take k all) → ⊥
 none_come_at_all at p items all i same past none k come =
     let few : length all ≤ i = subst (λ (xs : List Item). length xs ≤ i) same past in
     elim (cases_lt k (i + 1)) [
       | inl lt ↦ none k lt come
-      | inr le ↦ none i (omega arith) (subst (λ (xs : List Item). HasCome at p xs) (take_all k all (omega arith) ∙ sym (take_all i all few)) come)
+      | inr le ↦ none i (omega arith) (subst (λ (xs : List Item). HasComeBehind at p xs) (take_all k all (omega arith) ∙ sym (take_all i all few)) come)
     ]
 
 -- ---- there it is broken, and nowhere before
@@ -121,13 +121,13 @@ come_if : (properties : List Property) (p : Program) (items : List Item) (at : O
 come_if properties p items at k None is tells broken = absurd broken
 come_if properties p items at k (Some r) is tells (inl breaks) = ap (λ t. t || nat_lt 0 (fault_count p (take k items))) ((tells k r (sym is)).0 breaks)
 come_if properties p items at k (Some r) is tells (inr faults) =
-    or_right (is_within at (length r.output)) (nat_lt 0 (fault_count p (take k items))) (lt-ltb 0 (fault_count p (take k items)) faults)
+    or_right (is_place_within at (length r.output)) (nat_lt 0 (fault_count p (take k items))) (lt-ltb 0 (fault_count p (take k items)) faults)
 
 broken_if : (properties : List Property) (p : Program) (items : List Item) (at : Option ℕ) (k : ℕ) (o : Option Run) → o ≡ stands p (take k items) → TellsBreaks properties p items at →
     IsSomeAnd o (λ r. IsTrue (has_come at p (take k items) r)) → IsSomeAnd o (λ r. BreaksOne properties r.output ⊎ (0 < fault_count p (take k items)))
 broken_if properties p items at k None is tells come = absurd come
 broken_if properties p items at k (Some r) is tells come =
-    elim (or_either (is_within at (length r.output)) (nat_lt 0 (fault_count p (take k items))) come) [
+    elim (or_either (is_place_within at (length r.output)) (nat_lt 0 (fault_count p (take k items))) come) [
       | inl past ↦ inl ((tells k r (sym is)).1 past)
       | inr faults ↦ inr (ltb-true 0 (fault_count p (take k items)) faults)
     ]

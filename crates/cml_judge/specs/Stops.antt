@@ -69,28 +69,28 @@ earliest [] = None
 earliest (line ∷ lines) = earlier line (earliest lines)
 
 -- the place of this number is within so many
-abbrev pub is_within : Option ℕ → ℕ → Bool
-is_within None count = false
-is_within (Some place) count = nat_lt place count
+abbrev pub is_place_within : Option ℕ → ℕ → Bool
+is_place_within None count = false
+is_place_within (Some place) count = nat_lt place count
 
 -- Wherever the run stands after some of these items, what it has printed breaks one of the properties exactly if the byte of this number is among that.
 abbrev pub TellsBreaks : List Property → Program → List Item → Option ℕ → Type 0
 TellsBreaks properties p items at =
-    (k : ℕ) (r : Run) → stands p (take k items) ≡ Some r → BreaksOne properties r.output ↔ IsTrue (is_within at (length r.output))
+    (k : ℕ) (r : Run) → stands p (take k items) ≡ Some r → BreaksOne properties r.output ↔ IsTrue (is_place_within at (length r.output))
 
 -- Behind these items the byte of this number was printed, or a thread has ended at a fault.
 abbrev pub has_come : Option ℕ → Program → List Item → Run → Bool
-has_come at p items r = is_within at (length r.output) || nat_lt 0 (fault_count p items)
+has_come at p items r = is_place_within at (length r.output) || nat_lt 0 (fault_count p items)
 
-abbrev pub HasCome : Option ℕ → Program → List Item → Type 0
-HasCome at p items = IsSomeAnd (stands p items) (λ r. IsTrue (has_come at p items r))
+abbrev pub HasComeBehind : Option ℕ → Program → List Item → Type 0
+HasComeBehind at p items = IsSomeAnd (stands p items) (λ r. IsTrue (has_come at p items r))
 
 -- That is so behind so many items, and behind no fewer.
-pub record ComesBehind (at : Option ℕ) (p : Program) (items : List Item) (n : ℕ) : Type 0 where
+pub record ComesFirstBehind (at : Option ℕ) (p : Program) (items : List Item) (n : ℕ) : Type 0 where
   pub within : n ≤ length items
-  pub come : HasCome at p (take n items)
-  pub first : (k : ℕ) → k < n → HasCome at p (take k items) → ⊥
+  pub come : HasComeBehind at p (take n items)
+  pub first : (k : ℕ) → k < n → HasComeBehind at p (take k items) → ⊥
 
 abbrev pub ComesAfter : Option ℕ → Program → List Item → Option ℕ → Type 0
-ComesAfter at p items (Some n) = ComesBehind at p items n
-ComesAfter at p items None = (k : ℕ) → HasCome at p (take k items) → ⊥
+ComesAfter at p items (Some n) = ComesFirstBehind at p items n
+ComesAfter at p items None = (k : ℕ) → HasComeBehind at p (take k items) → ⊥

@@ -58,8 +58,8 @@ fn broken_at(alloc: Global, properties: &[Property], hub: &Hub) -> Result<Option
 }
 
 // Whether the place of this number is within so many.
-fn is_within(place: Option<usize>, count: usize) -> bool
-    ensures { result ≡ spec.is_within place count }
+fn is_place_within(place: Option<usize>, count: usize) -> bool
+    ensures { result ≡ spec.is_place_within place count }
 {
     match place {
         Some(place) => place < count,
@@ -71,7 +71,7 @@ fn is_within(place: Option<usize>, count: usize) -> bool
 fn has_come(hub: &Hub, at: Option<usize>) -> bool
     ensures { result ≡ spec.has_come at (text_of hub.now.course.program) hub.now.course.items (run_of hub.now.course) }
 {
-    is_within(at, hub.out().len()) || hub.faults() > 0
+    is_place_within(at, hub.out().len()) || hub.faults() > 0
 }
 
 // Behind how many items of the hub's schedule the byte of this number was printed, or a thread has ended at a fault. The items come in the second hub.

@@ -24,7 +24,7 @@ loop-i-preserved c =
     record {
       gone = gone;
       none = none_printed_more (text_of h.course.program) h.course.items c.args.at c.loop-i.i _ (leads_so h _ _ gone c.schedule-by_now.ensures.leads)
-          (subst (λ out. length out ≤ c.args.at) c.out.ensures (omega arith)) c.loop-i.invariant.none;
+          (subst (λ out. length out ≤ c.args.at) c.out-printed.ensures (omega arith)) c.loop-i.invariant.none;
     }
 
 pub returns-then-printed-at : goal.returns-then-printed-at
@@ -32,7 +32,7 @@ returns-then-printed-at c =
     let h = c.args.hub.now in
     let next = is_next c.schedule-items.result.now h c.loop-i.second c.loop-i.i (omega arith) c.schedule-items.ensures.items c.loop-i.invariant.gone in
     spot_next _ h _ _ c.args.at c.loop-i.i _ c.turn_spot.result _ next c.in_ok-come.ensures c.schedule-so_far.ensures.leads c.schedule-by_now.ensures.leads c.turn_spot.ensures
-    (subst (λ out. c.args.at < length out) c.out.ensures (omega arith)) c.loop-i.invariant.none
+    (subst (λ out. c.args.at < length out) c.out-printed.ensures (omega arith)) c.loop-i.invariant.none
 
 pub returns : goal.returns
 returns c =

@@ -12,8 +12,8 @@ returns-in-Some c =
     tells_breaks c.spells_one_at_most.ensures c.args.properties.now c.args.hub.now text (record { output = c.as_bytes-output.result; finish = GoesOn }) c.in_ok-judged.judged.items _
     c.schedule-items.ensures.leads (c.as_bytes-output.ensures.value ∙ c.out.ensures) refl refl c.in_ok-judged.ensures (subst (λ line. StartsSo text line c.start_of.result) first c.start_of.ensures)
 
-pub returns-in-None : goal.returns-in-None
-returns-in-None c =
+pub returns : goal.returns
+returns c =
     let text = c.as_bytes-output.result.now in
     let first = sym c.in-None.is ∙ (c.earliest.ensures ∙ ap earliest c.as_slice.ensures.value) in
     tells_breaks c.spells_one_at_most.ensures c.args.properties.now c.args.hub.now text (record { output = c.as_bytes-output.result; finish = GoesOn }) c.in_ok-judged.judged.items None
