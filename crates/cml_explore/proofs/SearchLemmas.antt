@@ -178,10 +178,10 @@ pub given_within : (p : List (PlainItem ℕ)) (asked : Asked) (items : List Item
 given_within p asked items count is = within_by asked.stops p asked items count is
 
 -- what was found for the items up to so many
-pub shrunk_so : (g : Goal) (items given : List Item) (count : ℕ) (own : List Detail) (found : PlainSearch) (s : PlainShrunk) → IsGiven g.program.now g.asked items count
-    → given ≡ take count items → g.details.now ≡ own → EndsWith g.program.now g.asked given own → SearchFinds g given g.asked.tries found
+pub shrunk_so : (g : Goal) (items given : List Item) (count : ℕ) (own : List Detail) (found : PlainSearch) (s : PlainShrunk) → EndsWith g.program.now g.asked given own
+    → SearchFinds g given g.asked.tries found → IsGiven g.program.now g.asked items count → given ≡ take count items → g.details.now ≡ own
     → s ≡ record { items = found.items; used = g.asked.tries - found.left } → IsShrunk g.program.now g.asked items s
-shrunk_so g items given count own found s so part same ended finds is =
+shrunk_so g items given count own found s ended finds so part same is =
     let within = given_within g.program.now g.asked items count so in
     let long : length given ≡ count = ap length part ∙ length-take-le count items within in
     subst (λ (made : PlainShrunk). IsShrunk g.program.now g.asked items made) (sym is) (record {
