@@ -11,6 +11,10 @@ use Rattle.cml_check.specs.declared.syntax.Expr.TheDeep as expressions
 use Rattle.cml_check.specs.contracts.syntax.Block.TheKnot as statement
 use Rattle.cml_check.specs.contracts.syntax.Block as Block
 use Rattle.cml_check.specs.declared.syntax.Block.TheDeep as statements
+use Rattle.cml_check.specs.contracts.flat.Flat as Flat
+use Rattle.cml_check.specs.contracts.flat.Offer as Offer
+use Rattle.cml_check.specs.contracts.flat.Told as Told
+use Rattle.cml_check.specs.contracts.flat.Op as Op
 use Rattle.cml_check.specs.contracts.program.Prog as Prog
 
 -- programs: expressions, and statements over these
@@ -60,7 +64,34 @@ block_send = both_send statement.frame statement.step statement.sizes statement_
 block_sync : IsSync Block.the_row
 block_sync = both_sync statement.frame statement.step statement.sizes statement_sends statement_syncs statements.member-Block
 
+-- the short forms of instructions
+flat_send : IsSend Flat.the_row
+flat_send = search (sendable, crosses) depth 60 fits 100000
+
+flat_sync : IsSync Flat.the_row
+flat_sync = search (sendable, crosses) depth 60 fits 100000
+
+offer_send : IsSend Offer.the_row
+offer_send = search (sendable, crosses) depth 60 fits 100000
+
+offer_sync : IsSync Offer.the_row
+offer_sync = search (sendable, crosses) depth 60 fits 100000
+
+told_send : IsSend Told.the_row
+told_send = search (sendable, crosses) depth 60 fits 100000
+
+told_sync : IsSync Told.the_row
+told_sync = search (sendable, crosses) depth 60 fits 100000
+
+ruleset parts_cross = (flat_send, flat_sync, offer_send, offer_sync, told_send, told_sync)
+
+op_send : IsSend Op.the_row
+op_send = search (sendable, crosses, parts_cross) depth 60 fits 100000
+
+op_sync : IsSync Op.the_row
+op_sync = search (sendable, crosses, parts_cross) depth 60 fits 100000
+
 pub program_sync : IsSync Prog.the_row
-program_sync = search (sendable, crosses, expressions_cross, block_send, block_sync) depth 60 fits 100000
+program_sync = search (sendable, crosses, expressions_cross, block_send, block_sync, op_send, op_sync) depth 60 fits 100000
 
 pub ruleset program_crosses = (sendable, crosses, program_sync)

@@ -79,12 +79,12 @@ breaks_push h [] (y ∷ tolds) one told each is = absurd each
 breaks_push h (x ∷ ones) [] one told each is = absurd each
 breaks_push h (x ∷ ones) (y ∷ tolds) one told each is = (each.0, breaks_push h ones tolds one told each.1 is)
 
-pub breaks_next : (h : Kept) (ones : List Break) (k : ℕ) (one : Break) (old new : List BreakTold) (told : BreakTold) → k < length ones → one ≡ get_or ones k one
-    → new ≡ old ++ told ∷ [] → told.one ≡ one → IsTeller h one.spot told.who → AreEachBreakTold h (take k ones) old → AreEachBreakTold h (take (k + 1) ones) new
-breaks_next h ones k one old new told within is more same who was =
-    let split : take (k + 1) ones ≡ take k ones ++ one ∷ [] = take_more ones k one within ∙ ap (λ (b : Break). take k ones ++ b ∷ []) (sym is) in
-    subst (λ (bs : List Break). AreEachBreakTold h bs new) (sym split)
-    (subst (AreEachBreakTold h (take k ones ++ one ∷ [])) (sym more) (breaks_push h (take k ones) old one told was (record { one_is = same; teller = who })))
+pub breaks_next : (h : Kept) (ones : List Break) (k : ℕ) (d : Break) (old new : List BreakTold) (told : BreakTold) → k < length ones → new ≡ old ++ told ∷ []
+    → told.one ≡ get_or ones k d → IsTeller h (get_or ones k d).spot told.who → AreEachBreakTold h (take k ones) old → AreEachBreakTold h (take (k + 1) ones) new
+breaks_next h ones k d old new told within more same who was =
+    subst (λ (bs : List Break). AreEachBreakTold h bs new) (sym (take_more ones k d within))
+    (subst (AreEachBreakTold h (take k ones ++ get_or ones k d ∷ [])) (sym more)
+    (breaks_push h (take k ones) old (get_or ones k d) told was (record { one_is = same; teller = who })))
 
 -- what is told of how the run of a hub was judged
 pub judgement_so : (asked : Asked) (h : Kept) (judged first second : List (Option ℕ)) (fate : Fate) (well : Bool) (breaks slice : List Break) (told : List BreakTold)

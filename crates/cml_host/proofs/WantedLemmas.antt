@@ -1,7 +1,7 @@
 -- The properties that the arguments give.
 use Rattle.std.proofs.Common.{◌≡◌, ◌∙◌, ◌⊎◌, ◌+◌, ◌<◌, ◌≤◌, ◌++◌, ◌∷◌, [], ℕ, zero, suc, Bool, true, false, List, MatchBool, Result, Ok, Err, Some}
 use Rattle.std.proofs.Common.{map, take, length, get_or, append_assoc, inl, inr, refl, sym, ap, subst, arith}
-use Rattle.std.specs.Prelude.{nat_lt}
+use Rattle.std.specs.Prelude.{IfErr, nat_lt}
 use Rattle.std.proofs.lemmas.Bool.Decides.{nat_tests}
 use Rattle.std.proofs.lemmas.List.{take_more, map_push}
 use Rattle.cml_check.specs.Syntax.{Name}
@@ -14,9 +14,12 @@ use Rattle.cml_properties.specs.declared.fault.PropertyFault.TheVariants.{At}
 use Rattle.cml_properties.specs.declared.fault.PropertyFaultKind.TheVariants.{Text}
 use Rattle.cml_properties.specs.declared.kind.PropertyKind.{PropertyKind}
 use Rattle.cml_properties.specs.declared.property.Property.{Property}
+use Rattle.cml_host.specs.Refused.{RefusesAs}
 use Rattle.cml_host.specs.Scripts.{IsWholeText}
 use Rattle.cml_host.specs.Stores.{Content, unknown, nothing, bytes, IsLoaded}
 use Rattle.cml_host.specs.Wanted.{AreGiven, IsBadPattern, IsNoPattern}
+use Rattle.cml_host.specs.declared.refusal.Refusal.{Refusal}
+use Rattle.cml_host.proofs.RefusedLemmas.{wrong_on}
 use Rattle.cml_host.proofs.TextLemmas.{all_or_long}
 
 -- ---- the texts of one kind
@@ -29,18 +32,17 @@ given_push kind (t ∷ texts) [] text found are is = absurd are
 given_push kind (t ∷ texts) (m ∷ more) text found are is = (are.0, given_push kind texts more text found are.1 is)
 
 -- one text more
-pub given_next : {A : Type 0} (f : A → Name) (kind : PropertyKind) (texts : List A) (i : ℕ) (x : A) (more : List Property) (found : Property) → i < length texts → x ≡ get_or texts i x
-    → AreGiven kind (map f (take i texts)) more → PatternsGive kind 0 0 (f x) (Ok found) → AreGiven kind (map f (take (i + 1) texts)) (more ++ found ∷ [])
-given_next f kind texts i x more found within is are gives =
-    let split : map f (take (i + 1) texts) ≡ map f (take i texts) ++ f x ∷ [] =
-    ap (map f) (take_more texts i x within) ∙ (map_push f (take i texts) (get_or texts i x) ∙ ap (λ y. map f (take i texts) ++ f y ∷ []) (sym is)) in
-    subst (λ (ts : List Name). AreGiven kind ts (more ++ found ∷ [])) (sym split) (given_push kind (map f (take i texts)) more (f x) found are gives)
+pub given_next : {A : Type 0} (f : A → Name) (kind : PropertyKind) (texts : List A) (i : ℕ) (d : A) (more : List Property) (found : Property) → i < length texts
+    → AreGiven kind (map f (take i texts)) more → PatternsGive kind 0 0 (f (get_or texts i d)) (Ok found) → AreGiven kind (map f (take (i + 1) texts)) (more ++ found ∷ [])
+given_next f kind texts i d more found within are gives =
+    let split : map f (take (i + 1) texts) ≡ map f (take i texts) ++ f (get_or texts i d) ∷ [] = ap (map f) (take_more texts i d within) ∙ map_push f (take i texts) (get_or texts i d) in
+    subst (λ (ts : List Name). AreGiven kind ts (more ++ found ∷ [])) (sym split) (given_push kind (map f (take i texts)) more (f (get_or texts i d)) found are gives)
 
 -- a text, and those behind it
-parted : {A : Type 0} (f : A → Name) (texts : List A) (i : ℕ) (x : A) → i < length texts → x ≡ get_or texts i x → (after : List Name) × (map f texts ≡ map f (take i texts) ++ f x ∷ after)
-parted f [] i x within is = absurd (omega (arith, within))
-parted f (y ∷ texts) zero x within is = (map f texts, ap (λ z. f z ∷ map f texts) (sym is))
-parted f (y ∷ texts) (suc i) x within is = let rest = parted f texts i x (omega (arith, within)) is in (rest.0, ap (λ (ts : List Name). f y ∷ ts) rest.1)
+parted : {A : Type 0} (f : A → Name) (texts : List A) (i : ℕ) (d : A) → i < length texts → (after : List Name) × (map f texts ≡ map f (take i texts) ++ f (get_or texts i d) ∷ after)
+parted f [] i d within = absurd (omega (arith, within))
+parted f (y ∷ texts) zero d within = (map f texts, refl)
+parted f (y ∷ texts) (suc i) d within = let rest = parted f texts i d (omega (arith, within)) in (rest.0, ap (λ (ts : List Name). f y ∷ ts) rest.1)
 
 bad_behind : (explains : Bool) (kind : PropertyKind) (before : List Name) (more : List Property) (text : Name) (after : List Name) (told : List ℕ) (status : ℕ) → AreGiven kind before more
     → IsBadPattern explains kind text told status → IsNoPattern explains kind (before ++ text ∷ after) told status
@@ -49,11 +51,20 @@ bad_behind explains kind (t ∷ before) [] text after told status are bad = absu
 bad_behind explains kind (t ∷ before) (m ∷ more) text after told status are bad = inr ((m, are.0), bad_behind explains kind before more text after told status are.1 bad)
 
 -- the text of this number is the first that gives none
-pub no_pattern : {A : Type 0} (f : A → Name) (explains : Bool) (kind : PropertyKind) (texts : List A) (i : ℕ) (x : A) (more : List Property) (told : List ℕ) (status : ℕ) → i < length texts
-    → x ≡ get_or texts i x → AreGiven kind (map f (take i texts)) more → IsBadPattern explains kind (f x) told status → IsNoPattern explains kind (map f texts) told status
-no_pattern f explains kind texts i x more told status within is are bad =
-    let split = parted f texts i x within is in
-    subst (λ (ts : List Name). IsNoPattern explains kind ts told status) (sym split.1) (bad_behind explains kind (map f (take i texts)) more (f x) split.0 told status are bad)
+pub no_pattern : {A : Type 0} (f : A → Name) (explains : Bool) (kind : PropertyKind) (texts : List A) (i : ℕ) (d : A) (more : List Property) (told : List ℕ) (status : ℕ)
+    → i < length texts → AreGiven kind (map f (take i texts)) more → IsBadPattern explains kind (f (get_or texts i d)) told status → IsNoPattern explains kind (map f texts) told status
+no_pattern f explains kind texts i d more told status within are bad =
+    let split = parted f texts i d within in
+    subst (λ (ts : List Name). IsNoPattern explains kind ts told status) (sym split.1)
+    (bad_behind explains kind (map f (take i texts)) more (f (get_or texts i d)) split.0 told status are bad)
+
+-- what is wrong with it was handed on
+pub bad_text : {A B : Type 0} (f : A → Name) (explains : Bool) (kind : PropertyKind) (texts : List A) (i : ℕ) (d : A) (more : List Property) (r : Result B Refusal) (why : Refusal)
+    → i < length texts → AreGiven kind (map f (take i texts)) more → r ≡ Err why → RefusesAs (IsBadPattern explains kind (f (get_or texts i d))) why
+    → IfErr r (RefusesAs (IsNoPattern explains kind (map f texts)))
+bad_text f explains kind texts i d more r why within are is wrong =
+    wrong_on (IsBadPattern explains kind (f (get_or texts i d))) (IsNoPattern explains kind (map f texts))
+    (λ told status bad. no_pattern f explains kind texts i d more told status within are bad) r why is wrong
 
 -- ---- the text of a file
 

@@ -4,9 +4,11 @@ ghost use Rattle.std.specs.{Prelude.{◌≡◌, ◌<◌, [], IfErr, IfOk, Some, 
 ghost use Rattle.cml_explore.specs.{Ends.{AreEndsTold}, FaultsTold.{AreFaultsTold}};
 ghost use Rattle.cml_host.specs.{Refused.{RefusesAs}, Replies.{plain_file, plain_of, plain_reply}, Scripts.{plain_script}, Stores.{IsUnchanged}};
 ghost use Rattle.cml_host.specs.Outcomes.{PlainOutcomeTold, plain_outcome_told};
-ghost use Rattle.cml_host.specs.Verified.{IsAstray, IsExamined, IsSearched, ProgramVerified, ScriptVerified, TellsOutcomes, VerdictTold, VerifyOutcome, end_files, ends_start, faults_of};
+ghost use Rattle.cml_host.specs.Verified.{IsAstray, IsExamined, IsSearched, ProgramVerified, ScriptVerified, TellsOutcomes, VerdictTold, VerifyOutcome, end_files, ends_of, ends_start, faults_of, unending_of};
 ghost use Rattle.cml_host.specs.Verified as spec;
 ghost use Rattle.cml_phrase.specs.Spots.{all_places};
+ghost use Rattle.cml_step.specs.Calls.{text_of};
+ghost use Rattle.cml_verify.specs.{Verdicts.{IsVerdict}, Faults.{AreFaults, IsUnending}};
 
 use crate::explore::class_files;
 use crate::outcomes::{OutcomeTold, gather_outcomes, outcome_files, outcomes_text};
@@ -110,7 +112,9 @@ fn verify_program(
 // A search of every schedule of the program, which looks at what was printed, or not.
 fn search(alloc: Global, program: &Prog, bound: usize, with_output: bool) -> Result<Verdict, Gap>
     requires { 0 < bound }
-    ensures { IfOk result (IsSearched program.now with_output bound) }
+    ensures ends { IfOk result (λ v. IsVerdict program.now with_output bound v.reach (ends_of v) v.states) }
+    ensures faults { IfOk result (λ v. AreFaults (text_of program.now) v.reach (faults_of v)) }
+    ensures unending { IfOk result (λ v. IsUnending (text_of program.now) v.reach (unending_of v)) }
 {
     if with_output {
         outcomes(alloc, program, bound)
