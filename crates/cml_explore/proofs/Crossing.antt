@@ -16,6 +16,11 @@ use Rattle.cml_check.specs.contracts.flat.Offer as Offer
 use Rattle.cml_check.specs.contracts.flat.Told as Told
 use Rattle.cml_check.specs.contracts.flat.Op as Op
 use Rattle.cml_check.specs.contracts.program.Prog as Prog
+use Rattle.cml_text.specs.contracts.sexpr.Sexpr.TheKnot as form
+use Rattle.cml_text.specs.contracts.sexpr.Sexpr as Sexpr
+use Rattle.cml_text.specs.declared.sexpr.Sexpr.TheDeep as forms
+use Rattle.cml_properties.specs.contracts.pattern.Pattern as Pattern
+use Rattle.cml_properties.specs.contracts.property.Property as Property
 
 -- programs: expressions, and statements over these
 module _ (p : Parts expression.frame) (s : (j : expressions.the_members) → IsSend (rows expression.frame p j)) (y : (j : expressions.the_members) → IsSync (rows expression.frame p j)) where
@@ -94,4 +99,27 @@ op_sync = search (sendable, crosses, parts_cross) depth 60 fits 100000
 pub program_sync : IsSync Prog.the_row
 program_sync = search (sendable, crosses, expressions_cross, block_send, block_sync, op_send, op_sync) depth 60 fits 100000
 
-pub ruleset program_crosses = (sendable, crosses, program_sync)
+-- properties: patterns, which are forms
+module _ (p : Parts form.frame) (s : (j : forms.the_members) → IsSend (rows form.frame p j)) (y : (j : forms.the_members) → IsSync (rows form.frame p j)) where
+  form_sends : (i : forms.the_members) → IsSend (rows form.frame (form.step p) i)
+  form_sends forms.member-Sexpr = has_of form.frame send (form.step p) forms.member-Sexpr (part_has send (form.view-Sexpr p) (search (sendable, crosses) depth 60 fits 100000))
+
+  form_syncs : (i : forms.the_members) → IsSync (rows form.frame (form.step p) i)
+  form_syncs forms.member-Sexpr = has_of form.frame sync (form.step p) forms.member-Sexpr (part_has sync (form.view-Sexpr p) (search (sendable, crosses) depth 60 fits 100000))
+
+form_send : IsSend Sexpr.the_row
+form_send = both_send form.frame form.step form.sizes form_sends form_syncs forms.member-Sexpr
+
+form_sync : IsSync Sexpr.the_row
+form_sync = both_sync form.frame form.step form.sizes form_sends form_syncs forms.member-Sexpr
+
+pattern_send : IsSend Pattern.the_row
+pattern_send = search (sendable, crosses, form_send, form_sync) depth 60 fits 100000
+
+pattern_sync : IsSync Pattern.the_row
+pattern_sync = search (sendable, crosses, form_send, form_sync) depth 60 fits 100000
+
+property_sync : IsSync Property.the_row
+property_sync = search (sendable, crosses, pattern_send, pattern_sync) depth 60 fits 100000
+
+pub ruleset program_crosses = (sendable, crosses, program_sync, property_sync)

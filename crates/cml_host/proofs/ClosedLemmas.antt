@@ -66,6 +66,16 @@ may_any explains (Err e) so = tt
 pub may_none : (explains : Bool) (words : Vec ℕ Global) → words.items ≡ [] → MaySay explains words.items
 may_none explains words none = subst (MaySay explains) (sym none) (may_nothing explains)
 
+-- where the script is kept, that is what is explained
+and_kept : (explains kept : Bool) → kept ≡ true → explains ≡ explains && kept
+and_kept true kept so = sym so
+and_kept false kept so = refl
+
+pub may_kept : {E : Type 0} (r : Result (Vec ℕ Global) E) (explains kept : Bool) → kept ≡ true → IfOk r (λ words. MaySay explains words.items) →
+    IfOk r (λ words. MaySay (explains && kept) words.items)
+may_kept (Ok words) explains kept so say = subst (λ (b : Bool). MaySay b words.items) (and_kept explains kept so) say
+may_kept (Err e) explains kept so say = tt
+
 -- what is said of properties and of the end, one behind the other
 pub said_so : (explains : Bool) (properties : List Property) (first more all : List ℕ) → (is_asked properties ≡ false → first ≡ []) → MaySay explains more → all ≡ first ++ more
     → MaySay (explains || is_asked properties) all
@@ -110,19 +120,18 @@ pub closed_as : (asked : PlainAsked) (save_as : Option (List ℕ)) (h : Kept) (c
     map plain_file reply.files.items ≡ schedule_file asked.explains save_as (schedule_text h.budget (size_of h.course.program) h.course.items) → IsClosing asked h closing →
     reply.words ≡ closing.words → reply.status ≡ closing.status →
     IsClosed asked save_as h.course.program h.course.items h.budget (run_of h.course) (behind h.course.output (plain_of reply))
-closed_as asked save_as h closing reply whole files closes words status =
-    (
-      h,
-      stands_itself h,
-      whole,
-      files,
-      (
-        closes.0,
-        closes.1,
-        subst (λ (ts : Vec ℕ Global). MaySay (asked.explains || is_asked asked.properties) ts.items) (sym words) closes.2,
-        status ∙ closes.3,
-      ),
-    )
+closed_as asked save_as h closing reply whole files closes words status = (
+  h,
+  stands_itself h,
+  whole,
+  files,
+  (
+    closes.0,
+    closes.1,
+    subst (λ (ts : Vec ℕ Global). MaySay (asked.explains || is_asked asked.properties) ts.items) (sym words) closes.2,
+    status ∙ closes.3,
+  ),
+)
 
 -- the schedule is saved as the one file
 pub one_scheduled : {E : Type 0} (r : Result (Vec code.File Global) E) (f : code.File) (explains : Bool) (save_as : Option (List ℕ)) (name bytes schedule : List ℕ) →

@@ -95,6 +95,14 @@ pub stops_nowhere : (b : Bool) (properties : List Property) (h : Kept) (left : O
 stops_nowhere true properties h left is = (None, is, refl)
 stops_nowhere false properties h left is = refl
 
+-- where that is asked for, it is where the run stops
+pub stops_so : {E : Type 0} (r : Result (Option Kept) E) (b : Bool) (given properties : List Property) (h : Kept) → given ≡ properties → b ≡ true →
+    IfOk r (IsStoppedThere given h) → IfOk r (λ other. MatchBool b (IsStoppedThere properties h other) (other ≡ None))
+stops_so (Ok other) b given properties h same so is =
+    subst (λ (t : Bool). MatchBool t (IsStoppedThere properties h other) (other ≡ None)) (sym so)
+    (subst (λ (ps : List Property). IsStoppedThere ps h other) same is)
+stops_so (Err e) b given properties h same so is = tt
+
 -- its end was told, or that memory ran out
 pub whole_told : (asked : PlainAsked) (saving : PlainSaving) (h : Kept) (made : Result Reply Refusal) → IfOk made (λ r. IsEnded asked saving h (behind h.course.output (plain_of r)))
     → IfErr made (λ why. why ≡ Memory) → IsEnded asked saving h (plain_reply h.course.output made) ⊎ (plain_reply h.course.output made ≡ runs_out h.course.output)

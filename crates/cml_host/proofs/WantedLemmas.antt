@@ -17,7 +17,7 @@ use Rattle.cml_properties.specs.declared.property.Property.{Property}
 use Rattle.cml_host.specs.Refused.{RefusesAs}
 use Rattle.cml_host.specs.Scripts.{IsWholeText}
 use Rattle.cml_host.specs.Stores.{Content, unknown, nothing, bytes, IsLoaded}
-use Rattle.cml_host.specs.Wanted.{AreGiven, IsBadPattern, IsNoPattern}
+use Rattle.cml_host.specs.Wanted.{AreGiven, IsBadPattern, IsNoPattern, SaysNone}
 use Rattle.cml_host.specs.declared.refusal.Refusal.{Refusal}
 use Rattle.cml_host.proofs.RefusedLemmas.{wrong_on}
 use Rattle.cml_host.proofs.TextLemmas.{all_or_long}
@@ -87,6 +87,14 @@ pub says_there : (content : Content) (found : List ℕ) (given : Result (List Pr
 says_there unknown found given loaded says = (found, tt, says)
 says_there nothing found given loaded says = absurd loaded
 says_there (bytes all) found given loaded says = (all, refl, whole_says all found given loaded says)
+
+-- or what is wrong with it
+pub none_there : (explains : Bool) (content : Content) (found slice told : List ℕ) (status : ℕ) → IsLoaded content text_limit found → slice ≡ found → SaysNone explains slice told status
+    → (text : List ℕ) × IsWholeText content text × SaysNone explains text told status
+none_there explains content found slice told status loaded same none =
+    let given : Result (List Property) PropertyFault = Err (At none.0 none.1) in
+    let whole = says_there content found given loaded (subst (λ (ts : List ℕ). TextSays ts given) same none.2) in
+    (whole.0, whole.1, (none.0, none.1, whole.2, none.3, none.4))
 
 -- ---- all of them, one kind after another
 

@@ -178,8 +178,24 @@ fn asked_words(alloc: Global, hub: &Hub, asked: &Asked<'_>) -> Result<Vec<u8>, A
     ensures { IfOk result (λ words. MaySay (plain_asked asked.now).explains words.items) }
 {
     match &asked.subject {
-        Some(subject) if asked.explains => end_words(alloc, hub, subject),
-        _ => Ok(Vec::new(alloc)),
+        Some(subject) => kept_words(alloc, hub, asked.explains, subject),
+        None => Ok(Vec::new(alloc)),
+    }
+}
+
+// The same of a script that is kept.
+fn kept_words(
+    alloc: Global,
+    hub: &Hub,
+    explains: bool,
+    subject: &Subject<'_>,
+) -> Result<Vec<u8>, AllocError>
+    ensures { IfOk result (λ words. MaySay explains words.items) }
+{
+    if explains {
+        end_words(alloc, hub, subject)
+    } else {
+        Ok(Vec::new(alloc))
     }
 }
 
@@ -228,7 +244,10 @@ fn closing_status(hub: &Hub, asked: &Asked<'_>, kept: bool) -> u8
 fn is_unwell(hub: &Hub, asked: &Asked<'_>, kept: bool) -> bool
     ensures { result ≡ closed.is_unwell (plain_asked asked.now) hub.now kept }
 {
-    either(!kept, either(has_a_fault(hub, asked), stays_stuck(hub, asked)))
+    either(
+        !kept,
+        either(has_a_fault(hub, asked), stays_stuck(hub, asked)),
+    )
 }
 
 // Whether it is to stop where a thread ends at a fault, and one has.

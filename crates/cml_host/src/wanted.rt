@@ -115,12 +115,7 @@ fn push_one(found: &mut Vec<Property>, property: Property) -> Result<(), AllocEr
 }
 
 // The property of one kind that this text gives.
-fn given(
-    alloc: Global,
-    kind: PropertyKind,
-    text: &str,
-    explains: bool,
-) -> Result<Property, Refusal>
+fn given(alloc: Global, kind: PropertyKind, text: &str, explains: bool) -> Result<Property, Refusal>
     ensures ok { IfOk result (λ found. PatternsGive kind 0 0 text.now (Ok found)) }
     ensures err { IfErr result (RefusesAs (IsBadPattern explains kind text.now)) }
 {
@@ -222,12 +217,7 @@ fn read_file<S: Store>(
 }
 
 // The properties that this text says.
-fn said(
-    alloc: Global,
-    name: &str,
-    text: &[u8],
-    explains: bool,
-) -> Result<Vec<Property>, Refusal>
+fn said(alloc: Global, name: &str, text: &[u8], explains: bool) -> Result<Vec<Property>, Refusal>
     ensures ok { IfOk result (λ more. TextSays text.now (Ok more.items)) }
     ensures err { IfErr result (RefusesAs (SaysNone explains text.now)) }
 {

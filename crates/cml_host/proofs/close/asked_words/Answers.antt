@@ -1,9 +1,10 @@
-use Rattle.std.proofs.Common.{rules}
-use Rattle.cml_host.proofs.ClosedLemmas.{may_any, may_none}
+use Rattle.std.proofs.Common.{◌&&◌, ap, is_some, rules}
+use Rattle.cml_host.proofs.ClosedLemmas.{may_kept, may_none}
 use Rattle.cml_host.proofs.close.asked_words.Goals as goal
 
-pub returns-then-explains : goal.returns-then-explains
-returns-then-explains c = may_any c.args.explains c.end_words.result c.if-explains.true
+pub returns-in-Some : goal.returns-in-Some
+returns-in-Some c =
+    may_kept c.kept_words.result c.args.asked.now.explains (is_some c.args.asked.now.subject) (ap is_some c.in-Some.is) c.kept_words.ensures
 
-pub returns-else-explains : goal.returns-else-explains
-returns-else-explains c = may_none c.args.explains c.new.result (search rules)
+pub returns-in-None : goal.returns-in-None
+returns-in-None c = may_none (c.args.asked.now.explains && is_some c.args.asked.now.subject) c.new.result (search rules)

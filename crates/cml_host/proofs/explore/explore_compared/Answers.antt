@@ -12,5 +12,5 @@ pub explore_program-requires-clause-beside : goal.explore_program-requires-claus
 explore_program-requires-clause-beside g c =
     λ some. subst (λ (l : List ℕ). IsFirstOutput c.args.script.now.program c.args.asked.now l) (sym c.as_slice.ensures.value) c.in-Ok.ensures
 
-pub returns-clause-told : goal.returns-clause-told
-returns-clause-told g c = (shows_none c.args.shows (g.E.Write.contents c.args.err.now.stream.now), inl (refl, inr refl))
+pub returns-in-Err-clause-told : goal.returns-in-Err-clause-told
+returns-in-Err-clause-told g c = (shows_none c.args.shows (g.E.Write.contents c.args.err.now.stream.now), inl (refl, inr refl))

@@ -26,12 +26,12 @@ loop-class-preserved c =
             good = few.1;
           }
       | else-saves w ↦ record {
-          files = told_past (is_saved c.args.runs.now) c.args.start.now c.args.budget c.args.program.now c.args.classes.now seen c.if-saves.seen c.args.told.now i
-              c.class-item.result _ c.loop-class.files.items c.if-saves.files.items _ c.loop-class-test.true c.class-item.is
-              (sym c.saves.ensures ∙ w.if-saves.false) w.seen-is (ap (λ v. v.items) w.files-is) before.files;
-          bad = omega (arith, ap (λ (k : Seen). k.bad) w.seen-is, before.bad);
-          good = omega (arith, ap (λ (k : Seen). k.good) w.seen-is, before.good);
-        }
+        files = told_past (is_saved c.args.runs.now) c.args.start.now c.args.budget c.args.program.now c.args.classes.now seen c.if-saves.seen c.args.told.now i
+            c.class-item.result _ c.loop-class.files.items c.if-saves.files.items _ c.loop-class-test.true c.class-item.is
+            (sym c.saves.ensures ∙ w.if-saves.false) w.seen-is (ap (λ v. v.items) w.files-is) before.files;
+        bad = omega (arith, ap (λ (k : Seen). k.bad) w.seen-is, before.bad);
+        good = omega (arith, ap (λ (k : Seen). k.good) w.seen-is, before.good);
+      }
     ]
 
 pub returns : goal.returns

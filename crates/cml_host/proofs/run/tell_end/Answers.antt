@@ -23,8 +23,8 @@ returns-in-Ok-None-clause-told g c =
     let told = c.tell_whole.ensures.told in
     (told.0, told_there asked (plain_saving c.args.saving.now) h h told.0 there refl refl c.hub_is_a_run-in-Ok-None.ensures.leads told.1, told.2)
 
-pub returns-clause-told : goal.returns-clause-told
-returns-clause-told g c =
+pub returns-in-Err-clause-told : goal.returns-in-Err-clause-told
+returns-in-Err-clause-told g c =
     let h = c.args.hub.now in
     let output = passage g.O.Write.contents c.args.out.now c.carry_out.new.out in
     let errors = passage g.E.Write.contents c.args.err.now c.carry_out.new.err in

@@ -43,7 +43,7 @@ returns-clause-ok g c =
     let wanted = c.in_ok-properties.properties.items in
     let asked : Asked = record { budget = both.plan.budget; tries = options.tries; properties = c.as_slice.result; stops = options.stop } in
     let found = store_from (λ (h : List ℕ → Content). AreWanted options.properties alone h wanted) (g.S.Store.holds c.args.store.now) (g.S.Store.holds c.open_both.new.store)
-        c.in_ok-both.ensures.same c.in_ok-properties.ensures.ok in
+    c.in_ok-both.ensures.same c.in_ok-properties.ensures.ok in
     IfOk-weaker c.shrink_plan.result _ _
     (λ told shorter. (
       are.0,
@@ -69,7 +69,7 @@ returns-clause-err g c =
     let wanted = c.in_ok-properties.properties.items in
     let asked : Asked = record { budget = both.plan.budget; tries = options.tries; properties = c.as_slice.result; stops = options.stop } in
     let found = store_from (λ (h : List ℕ → Content). AreWanted options.properties alone h wanted) held (g.S.Store.holds c.open_both.new.store)
-        c.in_ok-both.ensures.same c.in_ok-properties.ensures.ok in
+    c.in_ok-both.ensures.same c.in_ok-properties.ensures.ok in
     err_as (IsNotShorter both.program asked both.plan) (IsUnshrunk options held)
     (λ told status bad. inr (inr (
       are.0,

@@ -75,5 +75,5 @@ returns-clause-ok g c =
       more = last.0;
       more_are = last.1;
       all = all_found one.0 two.0 three.0 four.0 _ _ _ last.0 _ _ _ _ _ _ _ _
-          (one.2 ∙ ap (λ (l : List Property). l ++ one.0) c.new-found.ensures) two.2 three.2 four.2 c.in_ok-push_if.ensures c.in_ok-push_if-2.ensures c.in_ok-push_if-3.ensures last.2;
+          (one.2 ∙ ap (λ (l : List Property). l ++ one.0) c.new-found.ensures.items) two.2 three.2 four.2 c.in_ok-push_if.ensures c.in_ok-push_if-2.ensures c.in_ok-push_if-3.ensures last.2;
     }

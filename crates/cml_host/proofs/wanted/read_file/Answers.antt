@@ -4,7 +4,7 @@ use Rattle.cml_properties.specs.Reading.{TextSays}
 use Rattle.cml_host.specs.Refused.{IsUnread, RefusesAs}
 use Rattle.cml_host.specs.Wanted.{FileSaysNone, SaysNone}
 use Rattle.cml_host.proofs.RefusedLemmas.{err_as, wrong_on}
-use Rattle.cml_host.proofs.WantedLemmas.{says_there}
+use Rattle.cml_host.proofs.WantedLemmas.{none_there, says_there}
 use Rattle.cml_host.proofs.wanted.read_file.Goals as goal
 
 pub returns-in_err-text-clause-err : goal.returns-in_err-text-clause-err
@@ -25,8 +25,7 @@ returns-clause-ok g c =
 pub returns-clause-err : goal.returns-clause-err
 returns-clause-err g c =
     let held = g.S.Store.holds c.args.store.now in
-    let text = c.in_ok-text.text.items in
     err_as (SaysNone c.args.explains c.as_slice.result.now) (FileSaysNone c.args.explains (Some c.args.name.now) held)
     (λ told status none.
-    let whole = says_there (held c.args.name.now) text _ c.in_ok-text.ensures.ok (subst (λ (ts : List ℕ). TextSays ts _) c.as_slice.ensures.value none.2) in
-    inl (whole.0, whole.1, (none.0, none.1, whole.2, none.3, none.4))) c.said.result c.said.ensures.err
+    inl (none_there c.args.explains (held c.args.name.now) c.in_ok-text.text.items c.as_slice.result.now told status c.in_ok-text.ensures.ok c.as_slice.ensures.value none))
+    c.said.result c.said.ensures.err

@@ -1,10 +1,12 @@
-use Rattle.std.proofs.Common.{arith}
+use Rattle.std.proofs.Common.{arith, sym}
+use Rattle.std.proofs.lemmas.List.{length-take-le}
 use Rattle.cml_explore.proofs.AlikeLemmas.{ends_as_itself}
 use Rattle.cml_explore.proofs.SearchLemmas.{given_within, shrunk_so}
 use Rattle.cml_explore.proofs.shrink.shrunk.shrink.Goals as goal
 
 pub slice_bounds-given-end : goal.slice_bounds-given-end
-slice_bounds-given-end c = given_within c.args.program.now c.args.asked c.args.items.now c.in_ok-count.count c.in_ok-count.ensures
+slice_bounds-given-end c =
+    sym (length-take-le c.in_ok-count.count c.args.items.now (given_within c.args.program.now c.args.asked c.args.items.now c.in_ok-count.count c.in_ok-count.ensures))
 
 pub find-requires-clause-alike : goal.find-requires-clause-alike
 find-requires-clause-alike c =
