@@ -9,7 +9,7 @@ pub stands-append : (p : Program) (o : Option Run) (before items : List Item) �
 stands-append p o [] items = refl
 stands-append p o (i ∷ before) items = stands-append p (option_and_then (λ now. advance p now i) o) before items
 
-stands-none : (p : Program) (items : List Item) → stands_from p None items ≡ None
+pub stands-none : (p : Program) (items : List Item) → stands_from p None items ≡ None
 stands-none p [] = refl
 stands-none p (i ∷ items) = stands-none p items
 

@@ -18,3 +18,4 @@ pub mod Raising
 pub mod Turning
 pub mod Handing
 pub mod Waited
+pub mod Stopping

@@ -1,5 +1,5 @@
 -- What the laws say of runs.
-use Rattle.std.specs.Prelude.{◌≡◌, ℕ, List, [], ◌∷◌, ◌++◌, Some}
+use Rattle.std.specs.Prelude.{◌≡◌, ◌↔◌, ℕ, true, false, List, [], ◌∷◌, ◌++◌, Some, None}
 use Rattle.cml_value.specs.Value.{PlainBase, PlainValue}
 use Rattle.cml_scan.specs.World.{PlainWorld}
 use Rattle.cml_scan.specs.declared.meet.Meet.{Meet}
@@ -7,7 +7,7 @@ use Rattle.cml_schedule.specs.declared.item.Item.{Item}
 use Rattle.cml_schedule.specs.declared.item.Item.TheVariants.{Meet as Commit, Exchange, Clock}
 use Rattle.cml_step.specs.Terms.{Program}
 use Rattle.cml_book.specs.declared.command.Committed.{Committed}
-use Rattle.cml_hub.specs.Runs.{Run, stands, all_resumed, terminal}
+use Rattle.cml_hub.specs.Runs.{Run, stands, all_resumed, terminal, is_allowed}
 use Rattle.cml_hub.specs.Courses.{TakesRow}
 use Rattle.cml_rules.specs.Rules.{Communicate, sends, swaps, Synchronizes, alone, together}
 use Rattle.cml_rules.specs.Places.{row_of}
@@ -58,3 +58,11 @@ TimeWaits = (p : Program) (before after : List Item) (tick : ℕ) (now end : Run
 -- Where nothing is left to do, the rules allow no step.
 abbrev pub TheEndIsStill : Type 0
 TheEndIsStill = (w : PlainWorld) → Rattle.std.specs.Prelude.IsTrue (terminal w) → Step w → ⊥
+
+-- Nothing is left to do exactly where no item is allowed.
+abbrev pub EndIsNoItem : Type 0
+EndIsNoItem = (w : PlainWorld) → (terminal w ≡ true) ↔ ((item : Item) → is_allowed w item ≡ false)
+
+-- Where nothing is left to do, no schedule goes on: no thread that waits there ever goes on.
+abbrev pub EndIsForEver : Type 0
+EndIsForEver = (p : Program) (items more : List Item) (item : Item) (now : Run) → stands p items ≡ Some now → terminal now.world ≡ true → stands p (items ++ item ∷ more) ≡ None

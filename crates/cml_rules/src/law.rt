@@ -7,7 +7,7 @@ ghost use Rattle.cml_step.specs.Asks.{PlainAsk};
 ghost use Rattle.cml_book.specs.Keeping.{NacksLive};
 ghost use Rattle.cml_rules.specs.{Rules.{Sequel, Offers}, Laws.{Step, OffersAreLeaves, StepsAreRows, StepsAreCommits}};
 ghost use Rattle.cml_rules.specs.Firing.{AreTwoThreads, TakesOne, FiresOutside, NacksSettle};
-ghost use Rattle.cml_rules.specs.Runs.{RunsTakeSteps, StepsCanBeTaken, TimeWaits, TheEndIsStill};
+ghost use Rattle.cml_rules.specs.Runs.{RunsTakeSteps, StepsCanBeTaken, TimeWaits, TheEndIsStill, EndIsNoItem, EndIsForEver};
 ghost use Rattle.cml_rules.specs.Turns.{AsksAreActs, ForcesInTurn, TurnsAct, NoTurnSynchronizes};
 ghost use Rattle.cml_rules.specs.Waiting.{PendingAreForced};
 
@@ -92,4 +92,11 @@ pub fn no_turn_synchronizes()
 /// what the functions returned that were called for it, when the wait began.
 pub fn pending_are_forced()
     ensures { PendingAreForced }
+{}
+
+/// Nothing is left to do exactly where no item of a schedule is allowed; and then no schedule goes on, so that no thread that waits there
+/// ever does.
+pub fn an_end_is_for_ever()
+    ensures no_item { EndIsNoItem }
+    ensures for_ever { EndIsForEver }
 {}
