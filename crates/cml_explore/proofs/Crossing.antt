@@ -119,7 +119,7 @@ pattern_send = search (sendable, crosses, form_send, form_sync) depth 60 fits 10
 pattern_sync : IsSync Pattern.the_row
 pattern_sync = search (sendable, crosses, form_send, form_sync) depth 60 fits 100000
 
-property_sync : IsSync Property.the_row
+pub property_sync : IsSync Property.the_row
 property_sync = search (sendable, crosses, pattern_send, pattern_sync) depth 60 fits 100000
 
 pub ruleset program_crosses = (sendable, crosses, program_sync, property_sync)
