@@ -5,6 +5,7 @@ ghost use Rattle.cml_hub.specs.Kept.{IsBudget};
 
 use crate::making::{MEMORY, forms, program};
 use cml_explore::{Asked, Order, Orders, explain_runs, explore};
+use cml_judge::Wanted;
 use std::process::Abort;
 use std::rt::HostRuntime;
 
@@ -24,6 +25,10 @@ fn asked(first: u64, runs: u64, order: Order) -> Asked<'static>
         runs,
         orders: Orders::Named(order),
         servers: &[],
+        wanted: Wanted {
+            properties: &[],
+            first: &[],
+        },
         until: &[],
     }
 }

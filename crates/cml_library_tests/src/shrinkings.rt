@@ -1,7 +1,7 @@
 //! How many tries it takes to find a shorter schedule that ends alike, which was worked out by hand, and how long two schedules are, in words.
 
 use crate::making::{MEMORY, program_of, scheduled};
-use cml_explore::shrink::{counts_of, push_counts, shrink};
+use cml_explore::shrink::{Asked, counts_of, push_counts, shrink};
 use cml_hub::Item;
 use std::process::Abort;
 use std::rt::HostRuntime;
@@ -35,7 +35,13 @@ fn counted(rt: &(impl Abort + AllocGlobal), old: &[Item], new: &[Item]) -> Vec<u
 fn takes(rt: &(impl Abort + AllocGlobal), script: &str, items: &str, tries: u64, used: u64) {
     let program = program_of(rt, script);
     let given = scheduled(rt, items);
-    let found = shrink(rt.alloc(), &program, 1_000, given.items.as_slice(), tries);
+    let asked = Asked {
+        budget: 1_000,
+        tries,
+        properties: &[],
+        stops: false,
+    };
+    let found = shrink(rt.alloc(), &program, asked, given.items.as_slice());
     let found = found.ok().expect(rt, MEMORY);
     assert!(rt; found.used() == used);
     drop(found);
