@@ -36,7 +36,7 @@ pub fn shrink_file<S: Store>(
     let both = open_both(alloc, options.script, options.schedule, store)?;
     let properties = find_properties(alloc, &options.properties, ALONE, true, store)?;
     let asked = Asked {
-        budget: both.plan.budget,
+        budget: budget_of(&both),
         tries: options.tries,
         properties: properties.as_slice(),
         stops: options.stop,
@@ -44,9 +44,19 @@ pub fn shrink_file<S: Store>(
     shrink_plan(alloc, both, asked)
 }
 
+// The budget of the schedule that was read.
+fn budget_of(both: &Opened<'_>) -> u64
+    requires { IsBudget both.now.plan.budget }
+    ensures same { result ≡ both.now.plan.budget }
+    ensures budget { IsBudget result }
+{
+    both.plan.budget
+}
+
 // For the schedule that was read.
 fn shrink_plan(alloc: Global, both: Opened<'_>, asked: Asked<'_>) -> Result<Reply, Refusal>
     requires budget { IsBudget asked.budget }
+    requires read { IsBudget both.plan.budget }
     ensures ok { IfOk result (λ reply. GivesShorter both.entry.program asked.entry both.entry.plan (plain_of reply)) }
     ensures err { IfErr result (RefusesAs (IsNotShorter both.entry.program asked.entry both.entry.plan)) }
 {

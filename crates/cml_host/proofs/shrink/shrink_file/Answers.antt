@@ -41,7 +41,7 @@ returns-clause-ok g c =
     let both = c.in_ok-both.both in
     let are = c.in_ok-both.ensures.ok in
     let wanted = c.in_ok-properties.properties.items in
-    let asked : Asked = record { budget = both.plan.budget; tries = options.tries; properties = c.as_slice.result; stops = options.stop } in
+    let asked : Asked = record { budget = c.budget_of.result; tries = options.tries; properties = c.as_slice.result; stops = options.stop } in
     let found = store_from (λ (h : List ℕ → Content). AreWanted options.properties alone h wanted) (g.S.Store.holds c.args.store.now) (g.S.Store.holds c.open_both.new.store)
     c.in_ok-both.ensures.same c.in_ok-properties.ensures.ok in
     IfOk-weaker c.shrink_plan.result _ _
@@ -54,7 +54,7 @@ returns-clause-ok g c =
         found,
         (
           asked,
-          record { budget = refl; tries = refl; wanted = c.as_slice.ensures.value; stops = refl },
+          record { budget = c.budget_of.ensures.same; tries = refl; wanted = c.as_slice.ensures.value; stops = refl },
           subst (λ (p : List (PlainItem _)). GivesShorter p asked both.plan (plain_of told)) are.1 shorter,
         ),
       ),
@@ -67,7 +67,7 @@ returns-clause-err g c =
     let both = c.in_ok-both.both in
     let are = c.in_ok-both.ensures.ok in
     let wanted = c.in_ok-properties.properties.items in
-    let asked : Asked = record { budget = both.plan.budget; tries = options.tries; properties = c.as_slice.result; stops = options.stop } in
+    let asked : Asked = record { budget = c.budget_of.result; tries = options.tries; properties = c.as_slice.result; stops = options.stop } in
     let found = store_from (λ (h : List ℕ → Content). AreWanted options.properties alone h wanted) held (g.S.Store.holds c.open_both.new.store)
     c.in_ok-both.ensures.same c.in_ok-properties.ensures.ok in
     err_as (IsNotShorter both.program asked both.plan) (IsUnshrunk options held)
@@ -80,7 +80,7 @@ returns-clause-err g c =
         found,
         (
           asked,
-          record { budget = refl; tries = refl; wanted = c.as_slice.ensures.value; stops = refl },
+          record { budget = c.budget_of.ensures.same; tries = refl; wanted = c.as_slice.ensures.value; stops = refl },
           subst (λ (p : List (PlainItem _)). IsNotShorter p asked both.plan told status) are.1 bad,
         ),
       ),
