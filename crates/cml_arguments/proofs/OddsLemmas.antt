@@ -39,9 +39,6 @@ saves_by start name s n digits all by_start by_name is test =
     test ∙ (ap (list_all is_ascii_digit) (number_same start digits over.0 (sym named ∙ over.2)) ∙ over.1) in
     search (rules, into, back)
 
-pub saves_not : (start name s n : List ℕ) → s ≡ start → n ≡ name → ((digits : List ℕ) → n ≡ saved_name s digits → ⊥) → SavesOver start name → ⊥
-saves_not start name s n by_start by_name none over = none over.0 (by_name ∙ (over.2 ∙ ap (λ t. saved_name t over.0) (sym by_start)))
-
 pub number_after_start : (start name rest : List ℕ) (r : Option (Bor (List ℕ))) → name ≡ start ++ rest
     → MatchOption r ((digits : List ℕ) → rest ≡ saved_end digits → ⊥) (λ digits. rest ≡ saved_end digits.now)
     → MatchOption r ((digits : List ℕ) → name ≡ saved_name start digits → ⊥) (λ digits. name ≡ saved_name start digits.now)

@@ -1,7 +1,7 @@
 -- What is known where a wait on a group is not refused.
-use Rattle.std.proofs.Common.{◌≡◌, ℕ, ◌≤◌, Bool, true, false, not, nat_lt, ◌&&◌, length, Option, Some, None, refl, sym, arith}
+use Rattle.std.proofs.Common.{◌≡◌, ℕ, ◌≤◌, Bool, true, false, not, nat_lt, ◌&&◌, Option, Some, None, refl, sym, arith}
 use Rattle.std.specs.Prelude.{slice_get}
-use Rattle.std.specs.List.{list_all, list_any}
+use Rattle.std.specs.List.{list_any}
 use Rattle.std.proofs.lemmas.Bool.Decides.{nat_tests}
 use Rattle.cml_value.specs.Group.{PlainGroup, leaf_count, bases, scopes, nacks_of, group_fits}
 use Rattle.cml_group.specs.LaidOut.{max_leaves}
@@ -11,7 +11,6 @@ use Rattle.cml_book.specs.declared.refusal.Refusal.TheVariants as refusal
 use Rattle.cml_book.specs.Entering.{is_far}
 use Rattle.cml_book.specs.Outcomes.{first_if, first_of_both, thread_refusal}
 use Rattle.cml_book.specs.Sync.{group_exists, can_enter, sync_refusal}
-use Rattle.cml_book.specs.Walks.{shape_refusal}
 
 pub record Accepted (w : PlainWorld) (t : ℕ) (g : PlainGroup) : Type 0 where
   pub thread_runs : slice_get w.threads t ≡ Some running
@@ -57,29 +56,9 @@ accepted w t g e =
       enters = is_not _ spent.0;
     }
 
-either_some : (last : Option Refusal) (thread : Option Refusal) (object leaves deep far : Bool) (why : Refusal)
-    → first_of_both thread (first_if object refusal.Object (first_if leaves refusal.Leaves (first_if deep refusal.Deep (first_if far refusal.Far None)))) ≡ Some why
-    → first_of_both thread (first_if object refusal.Object (first_if leaves refusal.Leaves (first_if deep refusal.Deep (first_if far refusal.Far last)))) ≡ Some why
-either_some last (Some r) object leaves deep far why e = e
-either_some last None true leaves deep far why e = e
-either_some last None false true deep far why e = e
-either_some last None false false true far why e = e
-either_some last None false false false true why e = e
-either_some last None false false false false why e = cc
-
--- a refusal of a wait for its shape is its first refusal
-pub shape_refused : (w : PlainWorld) (t : ℕ) (g : PlainGroup) (why : Refusal) → shape_refusal w t g ≡ Some why → sync_refusal w t g ≡ Some why
-shape_refused w t g why e =
-    either_some (first_if (not (can_enter w t (nacks_of (scopes g)))) refusal.Nack None) (thread_refusal (slice_get w.threads t))
-    (not (group_exists w g)) (nat_lt max_leaves (leaf_count g)) (not (group_fits g)) (list_any (is_far w.tick) (bases g)) why e
-
 second : (a b : Bool) → a && b ≡ true → b ≡ true
 second true b e = e
 second false b e = cc
-
--- where a wait is not refused for its shape, the nacks of its scopes exist
-pub shape_exists : (w : PlainWorld) (t : ℕ) (g : PlainGroup) → shape_refusal w t g ≡ None → list_all (λ k. nat_lt k (length w.nacks)) (nacks_of (scopes g)) ≡ true
-shape_exists w t g e = second _ _ (is_not _ (if_none _ _ _ (both_none _ _ e).1).0)
 
 -- the last refusal of a wait for its shape, where the first four don't fit
 pub past_four : (why : Option Refusal) (exists many fits far b : Bool) → why ≡ None → exists ≡ true → not many ≡ true → fits ≡ true → far ≡ b

@@ -1,7 +1,7 @@
 -- How many leaves of pending threads wait for a tick.
 use Rattle.std.proofs.Common.{◌≡◌, ℕ, ◌+◌, ◌*◌, ◌<◌, ◌≤◌, Bool, true, false, cond, List, [], ◌∷◌, ◌++◌, length, map}
 use Rattle.std.proofs.Common.{refl, ap, sym, ◌∙◌, arith, zero, suc, Option, Some, None, take, zero-add, add-one}
-use Rattle.std.proofs.Common.{length-take, slice_index_or}
+use Rattle.std.proofs.Common.{slice_index_or}
 use Rattle.std.specs.Option.{option_map}
 use Rattle.std.specs.Prelude.{slice_set, slice_get, All, Contains, IfSome, IfNone}
 use Rattle.std.proofs.lemmas.Bool.Decides.{nat_tests}
@@ -42,9 +42,6 @@ leaf_take (l ∷ ls) (suc n) b h = ap (λ xs. l.base ∷ xs) (leaf_take ls n b h
 pub awaited-take : (t : ℕ) (g : PlainGroup) (n : ℕ) (b : PlainBase) → leaf_base g n ≡ Some b
     → times_awaited t (take (n + 1) (bases g)) ≡ times_awaited t (take n (bases g)) + times_awaited t (b ∷ [])
 awaited-take t g n b h = rw add-one (ap (times_awaited t) (leaf_take (leaves g) n b h) ∙ awaited-append t (take n (bases g)) (b ∷ []))
-
-pub awaited-few : (t : ℕ) (n : ℕ) (bs : List PlainBase) → times_awaited t (take n bs) ≤ n
-awaited-few t n bs = let a = count_by-le-length (awaits_tick t) (take n bs) in let b = length-take n bs in omega arith
 
 -- fewer leaves of a list
 pub awaited-le : (t : ℕ) (bs : List PlainBase) (m k : ℕ) → m ≤ k → times_awaited t (take m bs) ≤ times_awaited t (take k bs)

@@ -39,13 +39,6 @@ mutual
 pub leaf_count-entered : (tick : ℕ) (g : PlainGroup) → leaf_count (entered tick g) ≡ leaf_count g
 leaf_count-entered tick g = ap length (leaves-entered tick g) ∙ length-map (leaves g) (entered_leaf tick)
 
-bases-entered_leaves : (tick : ℕ) (ls : List PlainLeaf) → map (λ l. l.base) (map (entered_leaf tick) ls) ≡ map (entered_base tick) (map (λ l. l.base) ls)
-bases-entered_leaves tick [] = refl
-bases-entered_leaves tick (l ∷ ls) = ap (λ bs. entered_base tick l.base ∷ bs) (bases-entered_leaves tick ls)
-
-pub bases-entered : (tick : ℕ) (g : PlainGroup) → bases (entered tick g) ≡ map (entered_base tick) (bases g)
-bases-entered tick g = ap (map (λ (l : PlainLeaf). l.base)) (leaves-entered tick g) ∙ bases-entered_leaves tick (leaves g)
-
 -- the scopes stay
 mutual
   pub scopes_from-entered : (tick n : ℕ) (g : PlainGroup) → scopes_from n (entered tick g) ≡ scopes_from n g

@@ -6,7 +6,6 @@ pub mod NackLemmas
 pub mod Retold
 pub mod Alarms
 pub mod Given
-pub mod Held
 pub mod Scopes
 pub mod Marking
 pub mod Keepings

@@ -116,10 +116,6 @@ pub put_there : (xs : List (Option PlainValue)) (i : ℕ) (v : PlainValue) → i
     → fed_at put_into (map (λ s. s) xs) i v ≡ Ok (slice_set xs i (Some v))
 put_there xs i v h e = rw (map-id xs) (fed_there put_into xs i None (Some v) v (empty_there xs i h e) refl)
 
-pub put_accepted : (xs : List (Option PlainValue)) (i : ℕ) (v : PlainValue) → i < length xs → is_full (slice_get xs i) ≡ false
-    → IsAccepted (fed_at put_into (map (λ s. s) xs) i v)
-put_accepted xs i v h e = accepted_ok _ _ (put_there xs i v h e)
-
 pub put_done : (xs ys : List (Option PlainValue)) (i : ℕ) (v : PlainValue) → i < length xs → is_full (slice_get xs i) ≡ false
     → fed_at put_into (map (λ s. s) xs) i v ≡ Ok (map (λ s. s) ys) → ys ≡ slice_set xs i (Some v)
 put_done xs ys i v h e fed =

@@ -1,7 +1,7 @@
 -- What a table knows of the lights after it was told of some, each as it is.
 use Rattle.std.proofs.Common.{◌≡◌, ℕ, ◌<◌, Bool, true, false, not, ◌&&◌, ◌||◌, nat_eq, cond, List, [], ◌∷◌, ◌++◌}
 use Rattle.std.proofs.Common.{length, map, refl, ap, sym, ◌∙◌, arith, zero, suc, Option, Some, None, slice_index_or}
-use Rattle.std.proofs.Common.{append_assoc, drop}
+use Rattle.std.proofs.Common.{drop}
 use Rattle.std.specs.Prelude.{slice_get}
 use Rattle.std.specs.Option.{option_map}
 use Rattle.std.specs.List.{filter, list_any, cons_option}
@@ -113,10 +113,3 @@ lights_in-cons b bs = at (light b)
     at None = refl
     at (Some l) = refl
 
--- one more leaf's light was found
-pub awaited_step : (ls : List PlainLeaf) (n : ℕ) (b : PlainBase) (found all : List Light) → option_map (λ l. l.base) (slice_get ls n) ≡ Some b
-    → found ++ lights_in (drop n (map (λ l. l.base) ls)) ≡ all → (found ++ lights_in (b ∷ [])) ++ lights_in (drop (suc n) (map (λ l. l.base) ls)) ≡ all
-awaited_step ls n b found all h e =
-    append_assoc found (lights_in (b ∷ [])) (lights_in (drop (suc n) (map (λ l. l.base) ls)))
-    ∙ ap (λ xs. found ++ xs) (sym (lights_in-cons b (drop (suc n) (map (λ l. l.base) ls))) ∙ ap lights_in (sym (leaf_at ls n b h)))
-    ∙ e

@@ -148,10 +148,6 @@ front-push : {V : Type 0} (es : List (PlainExpr V)) (e : PlainExpr V) (found : C
 front-push es e (Ok rest) = ap (λ x. Ok x) (onto-push es e rest)
 front-push es e (Err f) = refl
 
-pub front-nil : {V : Type 0} (found : Checked (PlainExprs V)) → front [] found ≡ found
-front-nil (Ok rest) = refl
-front-nil (Err f) = refl
-
 pub exprs-map : {V W : Type 0} (f : V → W) (es : List (PlainExpr V)) → exprs_map f (exprs es) ≡ exprs (map (expr_map f) es)
 exprs-map f [] = refl
 exprs-map f (e ∷ es) = ap (exprs_and (expr_map f e)) (exprs-map f es)

@@ -221,10 +221,6 @@ front-push : (ss : List (PlainStmt Name)) (s : PlainStmt Name) (found : Checked 
 front-push ss s (Ok rest) = ap (λ x. Ok (x, rest.1)) (onto-push ss s rest.0)
 front-push ss s (Err f) = refl
 
-pub front-nil : (found : Checked (PlainStmts Name × Scope)) → front [] found ≡ found
-front-nil (Ok rest) = refl
-front-nil (Err f) = refl
-
 pub stmts-map : {V W : Type 0} (f : V → W) (ss : List (PlainStmt V)) → stmts_map f (stmts ss) ≡ stmts (map (stmt_map f) ss)
 stmts-map f [] = refl
 stmts-map f (s ∷ ss) = ap (stmts_and (stmt_map f s)) (stmts-map f ss)

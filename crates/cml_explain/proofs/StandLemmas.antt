@@ -5,7 +5,7 @@ use Rattle.std.proofs.Math.ListN.{drop_of_length-le}
 use Rattle.std.proofs.lemmas.Bool.{lt-ltb, le-ltb}
 use Rattle.std.proofs.lemmas.Bool.Decides.{nat_tests}
 use Rattle.cml_text.specs.declared.sexpr.Span.{Span}
-use Rattle.cml_text.specs.Forms.{PlainSexpr, plain_name, plain_int, plain_text, plain_list, forms_and, plain_forms, forms_list, span_of, nesting, nesting_of}
+use Rattle.cml_text.specs.Forms.{PlainSexpr, plain_name, plain_int, plain_text, plain_list, forms_and, plain_forms, forms_list, span_of}
 use Rattle.cml_check.specs.declared.word.Word.{Word}
 use Rattle.cml_explain.specs.declared.keyword.Role.{Role}
 use Rattle.cml_explain.specs.Stands.{PlainStand, first_word, part_role, standing_in, stand_among}
@@ -90,5 +90,3 @@ pub stand-end : (at : ℕ) (role : Role) (word : Option Word) (given i : ℕ) (f
 unfolding stand_among
 stand-end at role word given i forms all le inv = ap (λ fs. stand_among at role word given i (plain_forms fs)) (sym (drop_of_length-le forms le)) ∙ inv
 
-pub list-below : (form : PlainSexpr) (forms : List PlainSexpr) → form ≡ plain_list (span_of form) (plain_forms forms) → nesting form ≡ nesting_of (plain_forms forms) + 1
-list-below form forms is = ap nesting is

@@ -1,51 +1,17 @@
 -- What is drawn, one item after another.
 use Rattle.std.proofs.Common.{◌≡◌, ℕ, zero, suc, ◌+◌, Bool, true, false, ◌||◌, if◌then◌else◌, List, [], length, Option, Some, None, refl, sym, ap, ◌∙◌, arith}
-use Rattle.std.specs.Prelude.{nat_le, Result, Ok, Err, OnOk, IfOk}
+use Rattle.std.specs.Prelude.{nat_le}
 use Rattle.cml_schedule.specs.declared.item.Item.{Item}
 use Rattle.cml_check.specs.Syntax.{PlainItem}
 use Rattle.cml_step.specs.Calls.{text_of}
 use Rattle.cml_step.specs.Terms.{Program}
 use Rattle.cml_hub.specs.declared.fault.End.TheVariants.{Quiet, Budget, Partial}
-use Rattle.cml_hub.specs.Runs.{Run, opening, stands, advance, after_item, terminal, over, ending}
-use Rattle.cml_hub.specs.Courses.{PlainCourse, run_of, Comes}
-use Rattle.cml_hub.specs.Kept.{Kept, IsAtStart, IsFollowed, NoneOut}
+use Rattle.cml_hub.specs.Runs.{Run, opening, stands, terminal, over, ending}
+use Rattle.cml_hub.specs.Courses.{run_of}
+use Rattle.cml_hub.specs.Kept.{Kept, IsAtStart, NoneOut}
 use Rattle.cml_hub.specs.Playing.{Played}
 use Rattle.cml_hub.proofs.Played.{begins_run}
 use Rattle.cml_explore.specs.Draws.{Way, Drawn, item_added, led_by, one_drawn, more_drawn, begun_drawn, run_drawn, drawn_at, GoesDrawn, RunsDrawn, LeftDrawn}
-
-module _ {S : Type 0} (way : Way S) (old new : Kept) (state last : S) (item : Item) where
-  came_program : (came : Bool) → Comes old.course item came new.course → new.course.program ≡ old.course.program
-  came_program true adds = adds.program
-  came_program false none = ap (λ (c : PlainCourse). c.program) none.1
-
-  came_so : (came : Bool) → Comes old.course item came new.course
-      → drawn_at new last ≡ item_added (drawn_at old state) last (Some item) (advance (text_of old.course.program) (run_of old.course) item)
-  came_so true adds =
-      ap (λ (items : List Item). record { items = items; run = run_of new.course; state = last }) adds.items
-      ∙ ap (item_added (drawn_at old state) last (Some item)) (sym adds.run)
-  came_so false none =
-      ap (λ (c : PlainCourse). record { items = c.items; run = run_of c; state = last }) none.1
-      ∙ ap (λ (b : Bool). item_added (drawn_at old state) last (Some item) (if b then after_item (text_of old.course.program) (run_of old.course) item else None)) (sym none.0)
-
-  -- the item that was drawn came, or was not allowed
-  pub goes_by : (came : Bool) → Some item ≡ (way (length old.course.items) old.course.world state).0 → last ≡ (way (length old.course.items) old.course.world state).1 → IsFollowed old item came new
-      → GoesDrawn way old state new last
-  goes_by came is after followed =
-      let p = text_of old.course.program in
-      let d = way (length old.course.items) old.course.world state in
-      record {
-        program = came_program came followed.course;
-        budget_is = followed.budget;
-        goes = came_so came followed.course
-            ∙ (ap (λ (o : Option Item). item_added (drawn_at old state) last o (led_by p (run_of old.course) o)) is
-            ∙ ap (λ (s : S). item_added (drawn_at old state) s d.0 (led_by p (run_of old.course) d.0)) after);
-      }
-
--- the same, where memory was enough
-pub goes_by_ok : {S E : Type 0} (way : Way S) (r : Result Bool E) (old new : Kept) (state last : S) (item : Item) → Some item ≡ (way (length old.course.items) old.course.world state).0
-    → last ≡ (way (length old.course.items) old.course.world state).1 → IfOk r (λ came. IsFollowed old item came new) → OnOk r (GoesDrawn way old state new last)
-goes_by_ok way (Ok came) old new state last item is after followed = goes_by way old new state last item came is after followed
-goes_by_ok way (Err e) old new state last item is after followed = tt
 
 -- nothing was drawn
 pub goes_nowhere : {S : Type 0} (way : Way S) (old : Kept) (state last : S) → None ≡ (way (length old.course.items) old.course.world state).0

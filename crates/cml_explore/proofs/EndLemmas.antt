@@ -1,9 +1,9 @@
 -- Ends of a program, one schedule after another, and what is told of them.
 use Rattle.std.proofs.Common.{◌≡◌, ℕ, suc, ◌+◌, ◌<◌, ◌≤◌, Bool, List, [], ◌∷◌, ◌++◌, map, take, length, get_or, Some, refl, zero-add, sym, ap, subst, ◌∙◌, arith}
-use Rattle.std.specs.Prelude.{Option, slice_get, Vec, Result, Ok, Err, IfOk}
+use Rattle.std.specs.Prelude.{slice_get, Vec, Result, Ok, Err, IfOk}
 use Rattle.std.specs.List.{All}
 use Rattle.std.specs.declared.alloc.Global.{Global}
-use Rattle.std.proofs.lemmas.List.{map_push, take_more, length-take-le}
+use Rattle.std.proofs.lemmas.List.{map_push, take_more}
 use Rattle.std.proofs.lemmas.List.Elements.{All-nil, All-cons, All-head, All-tail, All-weaker}
 use Rattle.std.proofs.lemmas.List.Sorted.{All-permutation}
 use Rattle.std.proofs.lemmas.Option.{slice_get-get_or}
@@ -40,12 +40,6 @@ pub ended_by : {E : Type 0} (r : Result Bool E) (b : Bool) (p : List (PlainItem 
     → (e : PlainEnded) × EndsSoAfter p servers items e × (new ≡ with_ended number e old)
 ended_by (Ok s) b p servers wanted until items number h old new none is run added = (added.0, (h, wanted, none, run, added.1), added.2)
 ended_by (Err x) b p servers wanted until items number h old new none is run added = cc
-
-each_long : (p : List (PlainItem ℕ)) (servers : List ℕ) (schedules : List (List Item)) (es : List PlainEnded) → EachEndsAfter p servers schedules es → length es ≡ length schedules
-each_long p servers [] [] each = refl
-each_long p servers [] (e ∷ es) each = absurd each
-each_long p servers (s ∷ schedules) [] each = absurd each
-each_long p servers (s ∷ schedules) (e ∷ es) each = ap suc (each_long p servers schedules es each.1)
 
 each_push : (p : List (PlainItem ℕ)) (servers : List ℕ) (schedules : List (List Item)) (es : List PlainEnded) (s : List Item) (e : PlainEnded)
     → EachEndsAfter p servers schedules es → EndsSoAfter p servers s e → EachEndsAfter p servers (schedules ++ s ∷ []) (es ++ e ∷ [])

@@ -14,8 +14,8 @@ use Rattle.cml_explore.specs.Lots.{ready_from}
 use Rattle.cml_explore.specs.SeedRuns.{RunsOut}
 use Rattle.cml_explore.specs.declared.seed.order.Order.TheVariants as orders
 use Rattle.cml_explore.specs.Priorities.{Numbers, number_drawn, numbers_drawn, PlainPriorities, begun_priorities}
-use Rattle.cml_explore.specs.Priorities.{all_begun, highest, actor, item_of_actor, party_of, lowered, with_state}
-use Rattle.cml_explore.specs.Priorities.{acted, next_of_begun, next_by_priority, by_priority}
+use Rattle.cml_explore.specs.Priorities.{highest, actor, item_of_actor, party_of, lowered, with_state}
+use Rattle.cml_explore.specs.Priorities.{acted, next_of_begun, by_priority}
 
 -- one number more was drawn
 pub draws_one : (above span count x : ℕ) (old new : List ℕ) (state next : Lcg) (end : Numbers) → length old < count → new ≡ old ++ (above + x) ∷ []
@@ -54,10 +54,6 @@ pub next_acts : (items : ℕ) (w : PlainWorld) (g : PlainPriorities) (ready : Li
     → acted items w g who ≡ next_of_begun items w g
 unfolding next_of_begun
 next_acts items w g ready best who are highest_is actor_is = ap (acted items w g) (actor_is ∙ ap (actor w g) (highest_is ∙ ap (highest g) are))
-
--- what comes next, once all that have begun have their priorities
-pub next_so : (items : ℕ) (w : PlainWorld) (old begun : PlainPriorities) (n : ℕ) → n ≡ length w.threads → begun ≡ all_begun (n + 1) old → next_of_begun items w begun ≡ next_by_priority items w old
-next_so items w old begun n long is = ap (next_of_begun items w) (is ∙ ap (λ k. all_begun (k + 1) old) long)
 
 -- the run by priorities that were drawn from a seed on
 pub plays_so : {T E : Type 0} (r : Result T E) (depth span seed : ℕ) (old new : Kept) (begun last : PlainPriorities) → begun ≡ begun_priorities depth span (seeded seed)

@@ -1,6 +1,6 @@
 -- Steps of the search, one after another.
 use Rattle.std.proofs.Common.{◌≡◌, ℕ, ◌+◌, ◌-◌, ◌<◌, ◌≤◌, ◌⊎◌, inl, inr, Bool, true, false, List, length, take, refl, sym, ap, subst, ◌∙◌, arith, eqb-true}
-use Rattle.std.specs.Prelude.{◌==◌, ◌||◌, MatchBool, Some, Result, Ok, Err, IfOk, OnOk, slice_get, remove}
+use Rattle.std.specs.Prelude.{◌==◌, ◌||◌, MatchBool, Some, Result, Ok, Err, IfOk, slice_get, remove}
 use Rattle.std.proofs.lemmas.List.{length-take-le}
 use Rattle.cml_check.specs.Syntax.{PlainItem}
 use Rattle.cml_schedule.specs.declared.item.Item.{Item}
@@ -17,9 +17,6 @@ use Rattle.cml_explore.specs.Searching.{PlainSearch, AlikeTo, UnlikeTo, NeededBy
 -- nothing was tried
 pub no_step : (g : Goal) (A : Type 0) (s : PlainSearch) → A → Steps g A s false s
 no_step g A s a = (refl, omega arith, inr a)
-
-pub no_step_left : (g : Goal) (A : Type 0) (s : PlainSearch) → s.left ≡ 0 → Steps g A s false s
-no_step_left g A s e = (refl, omega arith, inl e)
 
 -- what holds otherwise may be told in other words
 pub step_as : (g : Goal) (A C : Type 0) (old new : PlainSearch) (came : Bool) → Steps g A old came new → (A → C) → Steps g C old came new
@@ -62,9 +59,6 @@ join_steps g A B C old mid new false other s t f = then_step g A B C old mid new
 abbrev pub NeededFrom : Goal → List Item → ℕ → Type 0
 NeededFrom g items done = (i : ℕ) → i < length items → length items ≤ i + done → NeededBy g items i
 
-pub pass_begins : (g : Goal) (s : PlainSearch) → Steps g (NeededFrom g s.items 0) s false s
-pass_begins g s = no_step g (NeededFrom g s.items 0) s (λ i h k. absurd (omega arith))
-
 one_more : (g : Goal) (items : List Item) (done number : ℕ) → number + 1 + done ≡ length items → NeededFrom g items done → NeededBy g items number
     → (i : ℕ) → i < length items → length items ≤ i + (done + 1) → (i ≡ number) ⊎ (length items ≤ i + done) → NeededBy g items i
 one_more g items done number e from here i h k (inl same) = subst (λ (n : ℕ). NeededBy g items n) (sym same) here
@@ -103,10 +97,6 @@ goes_nowhere g s alike = record { ends_alike = alike; no_longer = omega arith; t
 
 pub goes_on : (g : Goal) (old mid new : PlainSearch) → Goes g old mid → Goes g mid new → Goes g old new
 goes_on g old mid new s t = record { ends_alike = t.ends_alike; no_longer = omega (arith, s.no_longer, t.no_longer); tries = omega (arith, s.tries, t.tries) }
-
-pub goes_on_ok : {T E : Type 0} (r : Result T E) (g : Goal) (old mid new : PlainSearch) → Goes g old mid → OnOk r (Goes g mid new) → OnOk r (Goes g old new)
-goes_on_ok (Ok x) g old mid new s t = goes_on g old mid new s t
-goes_on_ok (Err e) g old mid new s t = tt
 
 pub step_came : (g : Goal) (A C : Type 0) (old new : PlainSearch) (came : Bool) → came ≡ true → Steps g A old came new → Steps g C old true new
 step_came g A C old new true e s = s

@@ -75,10 +75,5 @@ first_next nexts n i all h none so_far =
     let g : option_or None (first_ring nexts (suc i) (n - (i + 1))) ≡ all = ap (λ r. option_or r (first_ring nexts (suc i) (n - (i + 1)))) (sym none) ∙ f in
     ap (λ k. first_ring nexts k (n - (i + 1))) (omega arith) ∙ g
 
-pub first_found : (nexts : List (Option ℕ)) (n i : ℕ) (all : Option (List ℕ)) (ring : List ℕ) → i < n → ring_from nexts i ≡ Some ring → first_ring nexts i (n - i) ≡ all → Some ring ≡ all
-first_found nexts n i all ring h found so_far =
-    let e : first_ring nexts i (suc (n - (i + 1))) ≡ all = ap (λ k. first_ring nexts i k) (sym (at_left n i h)) ∙ so_far in
-    ap (λ r. option_or r (first_ring nexts (suc i) (n - (i + 1)))) (sym found) ∙ e
-
 pub first_none : (nexts : List (Option ℕ)) (n i : ℕ) (all : Option (List ℕ)) → n ≤ i → first_ring nexts i (n - i) ≡ all → None ≡ all
 first_none nexts n i all h so_far = let e : n - i ≡ 0 = omega arith in ap (λ k. first_ring nexts i k) (sym e) ∙ so_far

@@ -23,9 +23,6 @@ pub is_no_call : (old new : List PlainHeld) (h : PlainHeld) (top : Option PlainH
 is_no_call old new h top split so_far is =
     sym (ap (λ x. option_or x (top_call new)) is) ∙ (sym (top_call-push new h) ∙ (sym (ap top_call split) ∙ so_far))
 
-pub is_through : (old : List PlainHeld) (top : Option PlainHeld) → old ≡ [] → top_call old ≡ top → top ≡ None
-is_through old top none so_far = sym so_far ∙ ap top_call none
-
 pub falls : (old new : List PlainHeld) (h : PlainHeld) → old ≡ new ++ h ∷ [] → length new < length old
 falls old new h split = omega (arith, ap length split, length_push new h)
 

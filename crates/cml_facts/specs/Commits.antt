@@ -1,5 +1,5 @@
 -- What a commit does.
-use Rattle.std.specs.Prelude.{◌≡◌, ℕ, List, [], Option, Some, None, option_map}
+use Rattle.std.specs.Prelude.{◌≡◌, ℕ, List, Option, Some, None, option_map}
 use Rattle.cml_value.specs.declared.number.Tid.{Tid}
 use Rattle.cml_value.specs.Value.{PlainValue, PlainFunction, PlainBase, unit, join}
 use Rattle.cml_value.specs.Group.{lost}
@@ -20,11 +20,6 @@ use Rattle.cml_facts.specs.NarrativeViews.{PlainTaken, plain_taken}
 -- what a thread that waits takes at a leaf of its group, if that is there
 abbrev pub taken_at : PlainWorld → ℕ → ℕ → Option PlainTaken
 taken_at w t n = option_map (λ l. record { base = l.base; fired = lost (group_awaited w t) n }) (pick (group_awaited w t) n)
-
--- the nacks that fire where this is taken
-abbrev pub fired_at : Option PlainTaken → List ℕ
-fired_at None = []
-fired_at (Some x) = x.fired
 
 -- what a base event gave that was taken alone
 abbrev pub value_taken : PlainWorld → Option PlainTaken → PlainValue

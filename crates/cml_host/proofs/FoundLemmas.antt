@@ -11,7 +11,7 @@ use Rattle.std.specs.Ordering.{is_eq, match_ordering, nat_cmp}
 use Rattle.std.specs.declared.alloc.Global.{Global}
 use Rattle.std.specs.declared.cmp.Ordering.{Ordering}
 use Rattle.std.specs.declared.cmp.Ordering.TheVariants.{Less, Equal, Greater}
-use Rattle.std.proofs.lemmas.Bool.{false≢true, leb-false, leb-true}
+use Rattle.std.proofs.lemmas.Bool.{false≢true, leb-false}
 use Rattle.std.proofs.lemmas.Cmp.{on_total, tied_itself}
 use Rattle.std.proofs.lemmas.List.{map_push, take_more}
 use Rattle.std.proofs.lemmas.List.Elements.{All-contains_itself, All-map, All-nil, All-push, All-weaker, Contains-append_left, Contains-push}
@@ -93,21 +93,6 @@ module _ (key : Text) (value : Kept) (other : List ℕ) (apart : other ≢ key.i
 
 no_longer : (schedule : List Item) → length schedule ≤ length schedule
 no_longer schedule = omega arith
-
-kept_so : (found : TextMap) (text : List ℕ) (schedule : List Item) (o : Option (List Item)) → kept_by found text ≡ o → is_as_short o (length schedule) ≡ true → Notes found text schedule found
-kept_so found text schedule None is short = absurd (false≢true short)
-kept_so found text schedule (Some kept) is short = record {
-  kept = kept;
-  here = is;
-  one = inr is;
-  short = leb-true (length kept) (length schedule) short;
-  shorter = subst (λ (o : Option (List Item)). IfSome o (λ before. length kept ≤ length before)) (sym is) (no_longer kept);
-  others = λ other apart. refl;
-}
-
--- one is kept that is as short
-pub stays_noted : (found : TextMap) (text : List ℕ) (schedule : List Item) → is_as_short (kept_by found text) (length schedule) ≡ true → Notes found text schedule found
-stays_noted found text schedule short = kept_so found text schedule (kept_by found text) refl short
 
 not_shorter : (o : Option (List Item)) (schedule : List Item) → is_as_short o (length schedule) ≡ false → IfSome o (λ before. length schedule ≤ length before)
 not_shorter None schedule long = tt

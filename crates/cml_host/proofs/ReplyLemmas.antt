@@ -1,18 +1,18 @@
 -- What was written of texts, one after another, what was saved of files, and how a reply was carried out by that.
-use Rattle.std.proofs.Common.{◌≡◌, ◌∙◌, ◌+◌, ◌<◌, ◌==◌, ◌++◌, ◌∷◌, [], ℕ, zero, suc, Bool, true, false, List, Result, Ok}
-use Rattle.std.proofs.Common.{Err, OnOk, OnErr, map, take, drop, drop-cons, get_or, length, string_bytes, arith, refl, sym, ap, subst, inl, inr, add-one, true≢false}
+use Rattle.std.proofs.Common.{◌≡◌, ◌∙◌, ◌+◌, ◌<◌, ◌==◌, ◌++◌, ◌∷◌, [], ℕ, zero, suc, Bool, false, List, Result, Ok}
+use Rattle.std.proofs.Common.{Err, OnOk, OnErr, map, take, drop, drop-cons, get_or, length, string_bytes, arith, refl, sym, ap, subst, inr, add-one, true≢false}
 use Rattle.std.proofs.KnownBytes.{Appends-kept, Appends-nil, Appends-trans, Keeps-trans}
 use Rattle.std.proofs.Math.Seq.{take-suc}
 use Rattle.std.proofs.lemmas.List.{take-append-drop}
 use Rattle.cml_stream.specs.Counts.{counted}
 use Rattle.cml_stream.specs.Streams.{stream, Takes}
-use Rattle.cml_host.specs.Replies.{AreSaved, IsCutShort, File, GivesUp, HasSavedSome, IsCarriedOut, IsKept, IsSaid, EndsWriting}
-use Rattle.cml_host.specs.Replies.{IsWritten, Moment, Passage, PlainReply, TellsUnsaved, plain_file, plain_of}
+use Rattle.cml_host.specs.Replies.{AreSaved, IsCutShort, File, HasSavedSome, IsKept, EndsWriting}
+use Rattle.cml_host.specs.Replies.{IsWritten, Moment, Passage, TellsUnsaved, plain_file, plain_of}
 use Rattle.cml_host.specs.Stores.{Content, Shelf, IsReplacedBy, IsSaved, IsUnchanged}
 use Rattle.cml_host.specs.declared.reply.File as code
 use Rattle.cml_host.specs.declared.reply.Reply.{Reply}
 use Rattle.cml_host.proofs.SayLemmas.{start_taken}
-use Rattle.cml_host.proofs.TellLemmas.{start_behind, start_more}
+use Rattle.cml_host.proofs.TellLemmas.{start_behind}
 
 -- ---- what was written
 
@@ -54,20 +54,11 @@ breaks_behind [] (y ∷ ys) a b c one two =
 breaks_behind (x ∷ xs) (y ∷ ys) a b c one two =
     (start_behind a.bytes b.bytes c.bytes (x ∷ xs) (y ∷ ys) one.0 two.0, two.1 ∙ ap counted one.1)
 
-pub breaks_more : (first second : List ℕ) (s : Passage) → IsCutShort first s → IsCutShort (first ++ second) s
-breaks_more [] second s broke = absurd broke
-breaks_more (x ∷ xs) second s broke = (start_more s.old.bytes s.new.bytes (x ∷ xs) second broke.0, broke.1)
-
 -- a text was written, and the writing of another behind it ended so
 pub sent_behind : {A B : Type 0} (r : Result A B) (first second : List ℕ) (a b c : Moment) → IsWritten first (way a b) → EndsWriting second r (way b c) →
     EndsWriting (first ++ second) r (way a c)
 sent_behind (Ok x) first second a b c one two = written_both first second a b c one two
 sent_behind (Err e) first second a b c one two = breaks_behind first second a b c one two
-
--- a text was said, as far as it could be
-pub said_by : {A B : Type 0} (r : Result A B) (text : List ℕ) (s : Passage) → EndsWriting text r s → IsSaid text s
-said_by (Ok x) text s sent = inl sent
-said_by (Err e) text s sent = inr sent
 
 -- ---- what was saved
 
@@ -137,15 +128,3 @@ kept_some reply i f errors store status at saved told is = inr ((_, plain_file f
 
 -- ---- how a reply was carried out
 
--- the output was written, and the rest was done
-pub carried_on : (reply : PlainReply) (output errors : Passage) (store : Shelf) (status : ℕ) → IsWritten reply.output output → IsKept reply errors store status →
-    IsCarriedOut reply output errors store status
-carried_on reply output errors store status wrote (inl kept) = inl (wrote, kept.0, kept.1, kept.2)
-carried_on reply output errors store status wrote (inr broke) = inr (inl (wrote, broke.0, broke.1))
-
--- there is nothing but what is said
-pub gave_up : (reply : PlainReply) (output errors : Passage) (store : Shelf) (status : ℕ) → reply.files ≡ [] → IsUnchanged store.before store.after → GivesUp reply output errors status →
-    IsCarriedOut reply output errors store status
-gave_up reply output errors store status none same (inl said) =
-    inl (said.0, subst (λ (fs : List File). AreSaved fs store.before store.after) (sym none) same, said.1, said.2)
-gave_up reply output errors store status none same (inr broke) = inr (inr (broke.0, same, broke.1, broke.2))

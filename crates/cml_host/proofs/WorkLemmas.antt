@@ -1,9 +1,8 @@
 -- How a hub was run: by one thread, or by workers.
-use Rattle.std.proofs.Common.{◌≡◌, ◌∙◌, ap, ℕ, List, [], Option, Some, None, Result, Ok, Err, IfOk, OnOk, refl, sym, subst}
+use Rattle.std.proofs.Common.{◌≡◌, ◌∙◌, ap, ℕ, List, [], Option, Some, None, Result, Err, refl, sym, subst}
 use Rattle.std.proofs.KnownBytes.{Appends-nil}
 use Rattle.cml_check.specs.Syntax.{PlainItem}
 use Rattle.cml_hub.specs.Kept.{Kept, Continues, IsOver}
-use Rattle.cml_hub.specs.Playing.{Rules, PlaysOut}
 use Rattle.cml_hub.specs.Runs.{Run}
 use Rattle.cml_hub.specs.declared.fault.End.{End}
 use Rattle.cml_schedule.specs.Reports.{PlainReport}
@@ -15,7 +14,7 @@ use Rattle.cml_work.specs.Seen.{FaultWrites, failed_after_all}
 use Rattle.cml_work.specs.Works.{IsWorkerCount, GoesOnFrom, IsWorked, Works, WatchFails}
 use Rattle.cml_work.specs.declared.fault.WorkFault.{WorkFault}
 use Rattle.cml_work.specs.declared.fault.WorkFault.TheVariants as fault
-use Rattle.cml_host.specs.Running.{ReportsAreLive, HasRun, Plays, AreToldBy, IsStopped, IsCounted, failed_by, hub_of, cause_of}
+use Rattle.cml_host.specs.Running.{ReportsAreLive, HasRun, AreToldBy, IsStopped, failed_by, hub_of, cause_of}
 use Rattle.cml_host.specs.Told.{IsRunOf, reports_text}
 use Rattle.cml_host.specs.declared.workers.Cause.{Cause}
 use Rattle.cml_host.specs.declared.workers.Cause.TheVariants as cause
@@ -31,19 +30,6 @@ pub worked : (old new : Kept) (end : End) → Continues old new → IsOver end n
 worked old new end more is_over =
     record { goes_on = goes_on old new more; over_is = is_over.over_is; none_out = is_over.none_out; none_due = is_over.none_due }
 
--- the reports were told, and the hub has run to its end
-pub has_run : {E : Type 0} (old new : Kept) (ended : Result End E) (a b : Option (List ℕ)) (calls failed : ℕ) → Continues old new →
-    IfOk ended (λ end. IsOver end new) → OnOk ended (Takes (stream a b) (reports_text new.reports) × (failed ≡ 0)) → (x : End) → ended ≡ Ok x →
-    HasRun old new (counted_stream a b calls failed)
-has_run old new (Ok end) a b calls failed more is_over sent x is = (worked old new end more is_over, sent.0, sent.1)
-has_run old new (Err e) a b calls failed more is_over sent x is = cc
-
--- as the chooser makes the run
-pub has_played : {C E : Type 0} (rules : Rules C) (chooser last : C) (old new : Kept) (ended : Result End E) → OnOk ended (PlaysOut rules old chooser new last) →
-    (x : End) → ended ≡ Ok x → Plays rules chooser old new
-has_played rules chooser last old new (Ok end) plays x is = record { last = last; plays = plays }
-has_played rules chooser last old new (Err e) plays x is = cc
-
 -- they were told, and memory had run out
 pub all_told : (options : RunOptions) (old new : Kept) (a b : Option (List ℕ)) (calls failed : ℕ) → Continues old new →
     Takes (stream a b) (reports_text new.reports) → failed ≡ 0 →
@@ -51,20 +37,6 @@ pub all_told : (options : RunOptions) (old new : Kept) (a b : Option (List ℕ))
 all_told options old new a b calls failed more told none = (goes_on old new more, told, none)
 
 -- ---- by workers
-
-pub is_counted : (hub : Kept) (workers : ℕ) (f : WorkFault) → IsWorkerCount workers → Works hub workers (Err f) → IsCounted f
-is_counted hub workers (fault.Count new) count works = absurd (works.0 count)
-is_counted hub workers (fault.Memory new) count works = tt
-is_counted hub workers (fault.Start new) count works = tt
-is_counted hub workers (fault.Write new) count works = tt
-is_counted hub workers (fault.Foreign new seen) count works = tt
-
-pub is_counted_watched : (hub : Kept) (workers : ℕ) (f : WorkFault) → IsWorkerCount workers → WatchFails hub workers f → IsCounted f
-is_counted_watched hub workers (fault.Count new) count fails = absurd (fails.0 count)
-is_counted_watched hub workers (fault.Memory new) count fails = tt
-is_counted_watched hub workers (fault.Start new) count fails = tt
-is_counted_watched hub workers (fault.Write new) count fails = tt
-is_counted_watched hub workers (fault.Foreign new seen) count fails = tt
 
 pub ran_out : (hub : Kept) (workers : ℕ) (f : WorkFault) → IsWorkerCount workers → Works hub workers (Err f) →
     GoesOnFrom hub (hub_of f) × (cause_of f ≡ cause.Memory)

@@ -1,5 +1,5 @@
 -- The rows of a leaf, by the lane of those whom it meets.
-use Rattle.std.proofs.Common.{◌≡◌, Bool, false, cond, List, [], ◌∷◌, ◌++◌, map, Option, Some, None, refl, ap, sym, ◌∙◌}
+use Rattle.std.proofs.Common.{◌≡◌, Bool, false, cond, List, [], ◌∷◌, ◌++◌, map, Option, Some, None, refl, ap, ◌∙◌}
 use Rattle.std.proofs.lemmas.List.{append-nil}
 use Rattle.cml_value.specs.Value.{PlainBase, send, recv, swap}
 use Rattle.cml_value.specs.declared.number.Tid.{Tid}
@@ -40,16 +40,6 @@ rows_met told os p b = at (met_by b p.tid) refl
     at : (m : Option (Slot × PartnerThreads)) → met_by b p.tid ≡ m → rows_at told os p b ≡ rows_by told os p b m
     at (Some m) e = rw (met_dark told b p.tid m e) (pairs_there p b m.0 m.1 e os)
     at None e = rw (no_pairs p b e os) (append-nil _)
-
-pub rows_some : (told : Light → Bool) (os : List PlainOffer) (p : Place) (b : PlainBase)
-    (s : Option (Slot × PartnerThreads)) (k : Slot) (w : PartnerThreads) → s ≡ met_by b p.tid → s ≡ Some (k, w)
-    → rows_at told os p b ≡ map (pair_of p) (those w (lane_of slot_of k os))
-rows_some told os p b s k w is some = rows_met told os p b ∙ ap (rows_by told os p b) (sym is ∙ some)
-
-pub rows_none : (told : Light → Bool) (os : List PlainOffer) (p : Place) (b : PlainBase)
-    (s : Option (Slot × PartnerThreads)) (lit : Bool) → s ≡ met_by b p.tid → s ≡ None → lit_by told b ≡ lit
-    → rows_at told os p b ≡ cond lit (Single p.tid p.leaf ∷ []) []
-rows_none told os p b s lit is none e = rows_met told os p b ∙ ap (rows_by told os p b) (sym is ∙ none) ∙ ap (λ r. cond r (Single p.tid p.leaf ∷ []) []) e
 
 -- the rows of a head among sorted threads
 pub found_rows : (told : Light → Bool) (es : List PlainEntry) (p : Place) (b : PlainBase) → IsSorted es

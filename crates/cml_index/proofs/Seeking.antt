@@ -1,9 +1,9 @@
 -- A search among the leaves of one thread after another.
-use Rattle.std.proofs.Common.{◌≡◌, ℕ, zero, suc, ◌+◌, ◌-◌, ◌<◌, ◌≤◌, Bool, true, false, cond, List, [], ◌∷◌, ◌++◌, map, drop, length, get_or, nat_lt, Option, Some, None, refl, ap, sym, ◌∙◌, arith}
+use Rattle.std.proofs.Common.{◌≡◌, ℕ, zero, suc, ◌+◌, ◌-◌, ◌<◌, ◌≤◌, Bool, true, false, cond, List, [], ◌∷◌, ◌++◌, map, length, nat_lt, Option, Some, None, refl, ap, sym, ◌∙◌, arith}
 use Rattle.std.specs.Prelude.{slice_get}
 use Rattle.std.specs.List.{filter}
 use Rattle.std.proofs.lemmas.Bool.Decides.{nat_tests}
-use Rattle.std.proofs.lemmas.List.{drop_more, length-append, length-map, map-append}
+use Rattle.std.proofs.lemmas.List.{length-append, length-map, map-append}
 use Rattle.std.proofs.lemmas.List.Elements.{filter-append}
 use Rattle.cml_value.specs.Value.{PlainBase}
 use Rattle.cml_value.specs.Group.{bases}
@@ -44,22 +44,6 @@ passed_by x xs (suc k) some = let less : k ≡ suc k - 1 = omega arith in ap (sl
 -- the leaf of a thread
 abbrev pub leaf_at : ℕ → ℕ → PlainBase → PlainOffer
 leaf_at t i b = record { thread = t; leaf = i; base = b }
-
--- those that pass from one leaf on are that one, if it passes, and the later ones
-pub leaves_step : (f : PlainOffer → Bool) (t i : ℕ) (bs : List PlainBase) (b : PlainBase) (r : Bool) → i < length bs → b ≡ get_or bs i b → r ≡ f (leaf_at t i b)
-    → filter f (leaves_from t i (drop i bs)) ≡ cond r (leaf_at t i b ∷ filter f (leaves_from t (i + 1) (drop (i + 1) bs))) (filter f (leaves_from t (i + 1) (drop (i + 1) bs)))
-leaves_step f t i bs b r within is e =
-    ap (λ xs. filter f (leaves_from t i xs)) (drop_more bs i b within ∙ ap (λ x. x ∷ drop (i + 1) bs) (sym is))
-    ∙ ap (λ s. cond s (leaf_at t i b ∷ filter f (leaves_from t (i + 1) (drop (i + 1) bs))) (filter f (leaves_from t (i + 1) (drop (i + 1) bs)))) (sym e)
-
--- how many pass
-pub count_step : (f : PlainOffer → Bool) (t i : ℕ) (bs : List PlainBase) (b : PlainBase) (r : Bool) → i < length bs → b ≡ get_or bs i b → r ≡ f (leaf_at t i b)
-    → length (filter f (leaves_from t i (drop i bs))) ≡ cond r 1 0 + length (filter f (leaves_from t (i + 1) (drop (i + 1) bs)))
-count_step f t i bs b r within is e = ap length (leaves_step f t i bs b r within is e) ∙ at r (leaf_at t i b) (filter f (leaves_from t (i + 1) (drop (i + 1) bs)))
-  where
-    at : (s : Bool) (x : PlainOffer) (xs : List PlainOffer) → length (cond s (x ∷ xs) xs) ≡ cond s 1 0 + length xs
-    at true x xs = omega arith
-    at false x xs = omega arith
 
 -- the leaves of some threads are those of the first and those of the later ones
 pub offers_more : (e : PlainEntry) (es : List PlainEntry) → length (offers_of (e ∷ es)) ≡ length (bases e.group) + length (offers_of es)

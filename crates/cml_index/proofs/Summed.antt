@@ -4,7 +4,7 @@ use Rattle.std.specs.Prelude.{◌%◌, slice_set}
 use Rattle.std.specs.List.{list_any, sum_by, IsDistinct, AllByRecursion}
 use Rattle.std.proofs.lemmas.Bool.Decides.{nat_tests}
 use Rattle.std.proofs.lemmas.List.{get_or-set_same, get_or-set_other}
-use Rattle.std.proofs.lemmas.List.Sums.{sum_by-cons, sum_by-set, sum_by_push}
+use Rattle.std.proofs.lemmas.List.Sums.{sum_by-cons, sum_by-set}
 use Rattle.std.proofs.lemmas.Map.Keys.{IsDistinct-head, IsDistinct-tail}
 use Rattle.cml_objects.specs.declared.pairing.PairedId.{PairedId}
 use Rattle.cml_index.specs.HeadCounts.{count_in, all_counts}
@@ -133,20 +133,6 @@ pub total-drop : (f : PairedId → ℕ) (i : ℕ) (ns : List PairedId) → total
 total-drop f zero ns = omega arith
 total-drop f (suc i) [] = omega arith
 total-drop f (suc i) (n ∷ ns) = let rest = total-drop f i ns in omega (arith, rest)
-
--- the sum of all counts after one is set, as numbers of 64 bits
-pub set_sum : (was all old count now : ℕ) → was ≡ all % 2 ^ 64 → now + old ≡ all + count → old < 2 ^ 64 → ((was + (2 ^ 64 - old)) % 2 ^ 64 + count) % 2 ^ 64 ≡ now % 2 ^ 64
-set_sum was all old count now is whole small = omega (arith, is, whole, small)
-
--- one more count, which is 0
-pub pushed_count : (counts : List ℕ) (n : ℕ) → count_in (counts ++ 0 ∷ []) n ≡ count_in counts n
-pushed_count [] zero = refl
-pushed_count [] (suc n) = refl
-pushed_count (c ∷ counts) zero = refl
-pushed_count (c ∷ counts) (suc n) = pushed_count counts n
-
-pub pushed_sum : (counts : List ℕ) → all_counts (counts ++ 0 ∷ []) ≡ all_counts counts
-pushed_sum counts = let more = sum_by_push (λ n. n) counts 0 in omega (arith, more)
 
 -- a number that is in is not one that is not
 pub other_number : (p : ℕ → Bool) (m n : ℕ) → p m ≡ true → p n ≡ false → n ≢ m

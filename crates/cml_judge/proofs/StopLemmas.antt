@@ -1,6 +1,6 @@
 -- Where a run is stopped.
 use Rattle.std.proofs.Common.{◌≡◌, ◌⊎◌, ℕ, zero, suc, ◌+◌, ◌<◌, ◌≤◌, Bool, true, false, ◌||◌}
-use Rattle.std.proofs.Common.{List, [], ◌∷◌, ◌++◌, length, drop, take, get_or, Option, Some, None, refl, sym, ap, ◌∙◌, subst, arith, inl, inr, below_more}
+use Rattle.std.proofs.Common.{List, ◌∷◌, ◌++◌, length, drop, take, get_or, Option, Some, None, refl, sym, ap, ◌∙◌, subst, arith, inl, inr, below_more}
 use Rattle.std.specs.Prelude.{◌↔◌, nat_lt, min, IsTrue, IsSomeAnd, Result, Ok, Err, IfOk}
 use Rattle.std.proofs.lemmas.Bool.{cases_lt, lt-ltb, le-ltb, ltb-true, both_ways, or_right}
 use Rattle.std.proofs.lemmas.List.{at_drop_more, drop_all, take_all}
@@ -18,10 +18,9 @@ use Rattle.cml_properties.specs.Judged.{AreJudged}
 use Rattle.cml_properties.specs.declared.breach.Run.{Run as Printed}
 use Rattle.cml_properties.specs.declared.property.Finish.TheVariants.{GoesOn}
 use Rattle.cml_properties.specs.declared.property.Property.{Property}
-use Rattle.cml_judge.specs.Stops.{BreaksOne, IsBrokenAfter, StopsAfter, earlier, earliest, is_place_within, TellsBreaks, has_come, HasComeBehind, ComesFirstBehind, ComesAfter}
+use Rattle.cml_judge.specs.Stops.{BreaksOne, StopsAfter, earlier, earliest, is_place_within, TellsBreaks, has_come, HasComeBehind, ComesFirstBehind, ComesAfter}
 use Rattle.cml_judge.proofs.GrowLemmas.{begins_so, prints_whole_lines}
 use Rattle.cml_judge.proofs.PastLemmas.{StartsSo, GoesOnBehind, tells_begin}
-use Rattle.cml_judge.proofs.SpotLemmas.{leads_so}
 
 -- ---- the first line of several
 
@@ -142,7 +141,3 @@ stops_so (Ok (Some n)) properties p items at tells comes = record {
 stops_so (Ok None) properties p items at tells none = λ k broken. none k (come_if properties p items at k (stands p (take k items)) refl tells broken)
 stops_so (Err e) properties p items at tells comes = tt
 
--- the items up to where it is stopped lead somewhere
-pub leads_there : (properties : List Property) (p : Program) (items : List Item) → IsBrokenAfter properties p items → stands p items ≡ None → ⊥
-leads_there properties p items broken none =
-    subst (λ (o : Option Run). IsSomeAnd o (λ r. BreaksOne properties r.output ⊎ (0 < fault_count p items))) none broken

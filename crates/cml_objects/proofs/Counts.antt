@@ -316,13 +316,6 @@ last_tells tid ps d e up some first = at (nat_eq (get_or ps (length ps - 1) e).t
     at true yes_ = sym (no_others tid ps d e up some first (same (get_or ps (length ps - 1) e).tid.0 tid.0 yes_))
     at false no_ = sym (list_any_at (is_others tid) ps (length ps - 1) e (omega arith) (other (get_or ps (length ps - 1) e).tid.0 tid.0 no_))
 
--- where the first offer is another thread's, that tells
-pub first_tells : (tid : Tid) (ps : List Place) (d : Place) → 0 < length ps → (get_or ps 0 d).tid.0 ≢ tid.0 → list_any (is_others tid) ps ≡ true
-first_tells tid ps d some away = list_any_at (is_others tid) ps 0 d some (other (get_or ps 0 d).tid.0 tid.0 away)
-  where
-    other : (a b : ℕ) → a ≢ b → not (nat_eq b a) ≡ true
-    other a b e = grind (arith, nat_tests)
-
 -- the front of two lists that are joined
 pub written : {X : Type 0} (n : ℕ) (xs ys : List X) → n ≡ length xs → take n (xs ++ ys) ≡ xs
 written n [] ys e = rw e refl

@@ -73,8 +73,3 @@ room_after has_room (z ∷ zs) zero x y e kept (suc j) h = h
 room_after has_room (z ∷ zs) (suc i) x y e kept zero h = h
 room_after has_room (z ∷ zs) (suc i) x y e kept (suc j) h = room_after has_room zs i x y e kept j h
 
--- one more object after the others takes no room of theirs
-pub room_before : {K : Type 0} (has_room : K → Bool) (xs ys : List K) → KeepsRoom has_room xs (xs ++ ys)
-room_before has_room [] ys j h = cc
-room_before has_room (x ∷ xs) ys zero h = h
-room_before has_room (x ∷ xs) ys (suc j) h = room_before has_room xs ys j h

@@ -1,30 +1,13 @@
 -- A message comes to each of some ports.
-use Rattle.std.proofs.Common.{◌≡◌, ◌<◌, ◌++◌, ℕ, zero, suc, List, [], ◌∷◌, Bool, true, false, length, get_or, Option, Some, None, Ok, Err, refl, arith, replicate, ap, sym, ◌∙◌, ◌-◌, add-one}
+use Rattle.std.proofs.Common.{◌≡◌, ◌<◌, ◌++◌, ℕ, zero, suc, List, [], ◌∷◌, Bool, true, false, length, get_or, refl, arith, replicate, ap, sym, ◌∙◌, ◌-◌, add-one}
 use Rattle.std.proofs.lemmas.List.{length_push, replicate_more, same_from_push}
 use Rattle.std.proofs.lemmas.Option.{slice_get-map}
-use Rattle.std.specs.Prelude.{slice_get, slice_set, if◌then◌else◌, ◌||◌}
-use Rattle.std.specs.Option.{option_map_or}
+use Rattle.std.specs.Prelude.{slice_get, if◌then◌else◌, ◌||◌}
 use Rattle.cml_value.specs.Value.{PlainValue}
 use Rattle.cml_value.specs.declared.number.PortId.{PortId}
-use Rattle.cml_objects.specs.Feeds.{full}
-use Rattle.cml_objects.specs.Registered.{put_back, fed_at}
 use Rattle.cml_objects.specs.PlainQueue.{PlainQueue}
-use Rattle.cml_objects.specs.Queues.{queued, is_at_limit, is_full_at, added_at}
+use Rattle.cml_objects.specs.Queues.{is_full_at}
 use Rattle.cml_objects.specs.Posts.{port_numbers, unread, any_is_full}
-
-queued_step : (queues : List (List PlainValue)) (id : ℕ) (s : List PlainValue) (b : Bool) → b ≡ false → put_back queues id (if b then Err full else Ok s) ≡ Ok (slice_set queues id s)
-queued_step queues id s true h = cc
-queued_step queues id s false h = refl
-
-queued_in : (queues : List (List PlainValue)) (id : ℕ) (v : PlainValue) (o : Option (List PlainValue))
-    → option_map_or is_at_limit o false ≡ false → option_map_or (λ s. put_back queues id (queued s v)) o (Ok queues)
-    ≡ Ok (option_map_or (λ s. slice_set queues id (s ++ v ∷ [])) o queues)
-queued_in queues id v None h = refl
-queued_in queues id v (Some s) h = queued_step queues id (s ++ v ∷ []) (is_at_limit s) h
-
--- a port that is not full takes the message
-pub queued_at : (queues : List (List PlainValue)) (port : ℕ) (v : PlainValue) → is_full_at queues port ≡ false → fed_at queued queues port v ≡ Ok (added_at queues port v)
-queued_at queues port v h = queued_in queues port v (slice_get queues port) h
 
 or_false : (a b : Bool) → (a || b) ≡ false → (a ≡ false) × (b ≡ false)
 or_false true b h = cc

@@ -25,9 +25,3 @@ flag_both true false (Some f) = refl
 flag_both false true flag = refl
 flag_both false false flag = refl
 
--- what some items and one more set
-pub flag_more : (a b : Bool) → flag_or b (Some a) ≡ Some (a || b)
-flag_more true true = refl
-flag_more true false = refl
-flag_more false true = refl
-flag_more false false = refl

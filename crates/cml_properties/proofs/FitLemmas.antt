@@ -1,9 +1,8 @@
 -- Lists that fit lists, element by element; and how deep what stands in a list is.
 use Rattle.std.proofs.Common.{◌≡◌, ◌≢◌, ℕ, zero, suc, ◌<◌, ◌≤◌, false, ◌&&◌, List, [], ◌∷◌, length, get_or, drop, refl, ap, arith}
 use Rattle.std.proofs.lemmas.Bool.{and_right}
-use Rattle.cml_text.specs.declared.sexpr.Span.{Span}
-use Rattle.cml_text.specs.Forms.{PlainSexpr, plain_name, plain_int, plain_text, plain_list, PlainForms, plain_forms, nesting, nesting_of}
-use Rattle.cml_properties.specs.Patterns.{fits, all_fit, is_form_list}
+use Rattle.cml_text.specs.Forms.{PlainSexpr, plain_forms, nesting, nesting_of}
+use Rattle.cml_properties.specs.Patterns.{fits, all_fit}
 
 pub fit_more : (ps fs : List PlainSexpr) (i : ℕ) (d e : PlainSexpr) → i < length ps → length ps ≡ length fs →
     all_fit (plain_forms (drop i ps)) (plain_forms (drop i fs)) ≡ (fits (get_or ps i d) (get_or fs i e) && all_fit (plain_forms (drop (suc i) ps)) (plain_forms (drop (suc i) fs)))
@@ -17,12 +16,6 @@ fit_length [] [] differ = absurd (differ refl)
 fit_length [] (f ∷ fs) differ = refl
 fit_length (p ∷ ps) [] differ = refl
 fit_length (p ∷ ps) (f ∷ fs) differ = and_right (fits p f) (all_fit (plain_forms ps) (plain_forms fs)) (fit_length ps fs (λ e. differ (ap suc e)))
-
-pub fit_no_list : (span : Span) (ps : PlainForms) (form : PlainSexpr) → is_form_list form ≡ false → fits (plain_list span ps) form ≡ false
-fit_no_list span ps (plain_name s name) e = refl
-fit_no_list span ps (plain_int s value) e = refl
-fit_no_list span ps (plain_text s content) e = refl
-fit_no_list span ps (plain_list s fs) e = cc
 
 pub nesting_at : (forms : List PlainSexpr) (i : ℕ) (d : PlainSexpr) → i < length forms → nesting (get_or forms i d) ≤ nesting_of (plain_forms forms)
 nesting_at [] i d lt = absurd (omega arith)

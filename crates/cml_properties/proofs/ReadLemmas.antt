@@ -1,9 +1,9 @@
 -- How lines are read one after another.
-use Rattle.std.proofs.Common.{◌≡◌, ℕ, ◌+◌, ◌-◌, ◌≤◌, ◌==◌, suc, Bool, true, false, cond, List, [], ◌∷◌, ◌++◌, length, take, drop, Option, None, Result, Ok, Err}
+use Rattle.std.proofs.Common.{◌≡◌, ℕ, ◌+◌, ◌-◌, ◌≤◌, ◌==◌, suc, Bool, true, false, cond, List, [], ◌∷◌, ◌++◌, length, take, drop, Option, Result, Ok, Err}
 use Rattle.std.proofs.Common.{refl, ap, sym, ◌∙◌, subst, arith, inl, inr}
 use Rattle.std.specs.Prelude.{◌<◌, MatchBool, Vec}
 use Rattle.std.specs.declared.alloc.Global.{Global}
-use Rattle.std.proofs.lemmas.Bool.{le-ltb, lt-ltb}
+use Rattle.std.proofs.lemmas.Bool.{le-ltb}
 use Rattle.std.proofs.lemmas.List.{append_assoc, append-nil}
 use Rattle.cml_text.specs.Sizes.{text_limit}
 use Rattle.cml_text.specs.declared.fault.FaultKind.TheVariants.{Long}
@@ -20,9 +20,6 @@ use Rattle.cml_properties.specs.declared.kind.PropertyKind.{PropertyKind}
 use Rattle.cml_properties.specs.declared.property.Property.{Property}
 use Rattle.cml_properties.specs.declared.fault.PropertyFault.{PropertyFault}
 use Rattle.cml_properties.specs.Reading.{is_blank_line, line_begun, WordGives, LineGives, said, LineSays, before_others, LinesSay, TextSays, read_properties, IfTold}
-
-pub blank_says : (at : ℕ) (line : List ℕ) → is_blank_line line ≡ true → LineSays at line (Ok None)
-blank_says at line e = rw e refl
 
 pub line_says : (at : ℕ) (line : List ℕ) (given : Result Property PropertyFault) → is_blank_line line ≡ false → LineGives at line given → LineSays at line (said given)
 line_says at line given e gives = rw e (given, gives, refl)
@@ -78,10 +75,6 @@ says_short text found le says =
 
 abbrev long_fault : Result (List Property) PropertyFault
 long_fault = Err (At (Text Long) text_limit)
-
-pub says_long : (text : List ℕ) → 1048576 < length text → TextSays text (Err (At (Text Long) text_limit))
-says_long text lt =
-    subst (λ (b : Bool). MatchBool b (long_fault ≡ long_fault) (LinesSay 0 (lines text) long_fault)) (sym (lt-ltb text_limit (length text) lt)) refl
 
 -- no line is left
 pub says_all : (text : List ℕ) (front : List Property) (at : ℕ) (left : List (List ℕ)) → length text ≤ 1048576 → left ≡ [] → SaysOn text front at left → TextSays text (Ok front)

@@ -1,14 +1,13 @@
 -- The pending threads of a world, and the leaves of sorted threads, stand in order.
-use Rattle.std.proofs.Common.{◌≡◌, ℕ, ◌+◌, ◌<◌, Bool, true, false, not, ◌&&◌, ◌||◌, nat_eq, nat_lt, cond, List, [], ◌∷◌, ◌++◌, map, Option, Some, None, refl, arith}
+use Rattle.std.proofs.Common.{◌≡◌, ℕ, ◌+◌, ◌<◌, Bool, true, false, not, ◌&&◌, ◌||◌, nat_eq, nat_lt, cond, List, [], ◌∷◌, ◌++◌, map, refl, arith}
 use Rattle.std.specs.List.{filter}
-use Rattle.std.specs.Borrow.{Bor}
 use Rattle.std.proofs.lemmas.Bool.Decides.{nat_tests}
 use Rattle.cml_value.specs.Value.{PlainBase}
-use Rattle.cml_value.specs.Group.{PlainGroup, bases}
+use Rattle.cml_value.specs.Group.{bases}
 use Rattle.cml_value.specs.declared.number.Tid.{Tid}
 use Rattle.cml_scan.specs.World.{PlainThread, running, pending_on, ended, PlainWorld, PlainEntry, pending_from, pending}
 use Rattle.cml_scan.specs.Scan.{PlainOffer, leaves_from, offers_of, same_place, is_among}
-use Rattle.cml_scan.specs.Table.{without, with_entry, changed}
+use Rattle.cml_scan.specs.Table.{without, with_entry}
 use Rattle.cml_scan.specs.Order.{Every, Ascends, IsSorted, place, before}
 use Rattle.cml_scan.specs.declared.meet.Place.{Place}
 
@@ -169,7 +168,3 @@ sorted_with e es up =
     (all_before e fs bs (Every-passes (λ x. nat_lt x.thread e.thread) es) (Every-passes (λ x. nat_lt e.thread x.thread) es))
     (Every-passes (λ x. nat_lt e.thread x.thread) es, Ascends-filter r (λ x. nat_lt e.thread x.thread) es up)
 
--- what was told stays sorted
-pub sorted_changed : (es : List PlainEntry) (gone : List Tid) (came : Option (Tid × Bor PlainGroup)) → IsSorted es → IsSorted (changed es gone came)
-sorted_changed es gone None up = sorted_without gone es up
-sorted_changed es gone (Some c) up = sorted_with (record { thread = c.0.0; group = c.1.now }) (without gone es) (sorted_without gone es up)

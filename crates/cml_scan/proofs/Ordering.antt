@@ -6,11 +6,10 @@ use Rattle.std.proofs.lemmas.Bool.Decides.{nat_tests}
 use Rattle.std.proofs.lemmas.List.Elements.{All-nil, All-cons}
 use Rattle.std.proofs.lemmas.List.Kept.{AllPairs-cons}
 use Rattle.cml_value.specs.Value.{PlainBase}
-use Rattle.cml_scan.specs.World.{PlainWorld, PlainEntry, pending}
-use Rattle.cml_scan.specs.Light.{lit, lit_by}
-use Rattle.cml_scan.specs.Scan.{PlainOffer, offers_of, can_meet, single, pair, pairs_with, rows_of, scan, scan_of, place_of, same_place, partners}
-use Rattle.cml_scan.specs.Order.{Every, Ascends, IsSorted, place, before_numbers, before, row_before}
-use Rattle.cml_scan.specs.declared.object.Light.{Light}
+use Rattle.cml_scan.specs.World.{PlainWorld, pending}
+use Rattle.cml_scan.specs.Light.{lit}
+use Rattle.cml_scan.specs.Scan.{PlainOffer, offers_of, can_meet, single, pair, pairs_with, rows_of, scan, place_of, same_place, partners}
+use Rattle.cml_scan.specs.Order.{Every, Ascends, place, before_numbers, before, row_before}
 use Rattle.cml_scan.specs.declared.meet.Meet.{Meet}
 use Rattle.cml_scan.specs.declared.meet.Meet.TheVariants.{Single, Pair}
 use Rattle.cml_scan.specs.declared.meet.Place.{Place}
@@ -90,9 +89,6 @@ rows_ascend is_lit os up =
     (singles_up (filter (λ o. is_lit o.base) os) (Ascends-filter (λ a b. before (place a) (place b)) (λ o. is_lit o.base) os each))
     (singles_before os os (filter (λ o. is_lit o.base) os))
     (all_pairs_up os os each each)
-
-pub scan_of-ascends : (entries : List PlainEntry) (told : Light → Bool) → IsSorted entries → Ascends row_before (scan_of entries told)
-scan_of-ascends entries told up = rows_ascend (lit_by told) (offers_of entries) (offers_ascend entries up)
 
 pub scan-ascends : (w : PlainWorld) → Ascends row_before (scan w)
 scan-ascends w = rows_ascend (lit w) (offers_of (pending w)) (offers_ascend (pending w) (pending_sorted w))

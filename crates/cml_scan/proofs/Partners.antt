@@ -2,7 +2,7 @@
 -- above its own; the heads are the lit leaves and then the leaves that have a partner. All for what a table was told, and for a world.
 use Rattle.std.proofs.Common.{◌≡◌, ℕ, zero, suc, ◌<◌, Bool, true, false, cond, List, [], ◌∷◌, ◌++◌, map, length, slice_index_or, Some, refl, ap, ◌∙◌, arith}
 use Rattle.std.specs.Prelude.{Contains}
-use Rattle.std.specs.List.{filter, list_any}
+use Rattle.std.specs.List.{filter}
 use Rattle.std.proofs.lemmas.List.Elements.{filter_agree}
 use Rattle.cml_value.specs.Value.{PlainValue, PlainBase, send, swap}
 use Rattle.cml_scan.specs.World.{PlainWorld, PlainEntry, pending}
@@ -57,20 +57,6 @@ swap_found : (is_lit : PlainBase → Bool) (xs : List PlainOffer) (h : PlainOffe
 swap_found is_lit xs h s v up dark there is =
     unlit_found is_lit xs h up (ap is_lit is ∙ dark) there ∙ ap (map (pair h)) (filter_agree (can_meet h) (can_swap h.thread s) (can_meet-swap h s v is) xs)
 
--- the partners of a leaf that is not lit, among sorted threads
-pub scan_of-unlit : (entries : List PlainEntry) (told : Light → Bool) (h : PlainOffer) → IsSorted entries → lit_by told h.base ≡ false → Contains (offers_of entries) h
-    → partners_of (scan_of entries told) (place h) ≡ map (pair h) (filter (can_meet h) (offers_of entries))
-scan_of-unlit entries told h up dark there = unlit_found (lit_by told) (offers_of entries) h (offers_ascend entries up) dark there
-
--- those of a send, and of a swap
-pub scan_of-send : (entries : List PlainEntry) (told : Light → Bool) (h : PlainOffer) (c : ℕ) (v : PlainValue) → IsSorted entries → Contains (offers_of entries) h → h.base ≡ send c v
-    → partners_of (scan_of entries told) (place h) ≡ map (pair h) (filter (can_take h.thread c) (offers_of entries))
-scan_of-send entries told h c v up there is = send_found (lit_by told) (offers_of entries) h c v (offers_ascend entries up) refl there is
-
-pub scan_of-swap : (entries : List PlainEntry) (told : Light → Bool) (h : PlainOffer) (s : ℕ) (v : PlainValue) → IsSorted entries → Contains (offers_of entries) h → h.base ≡ swap s v
-    → partners_of (scan_of entries told) (place h) ≡ map (pair h) (filter (can_swap h.thread s) (offers_of entries))
-scan_of-swap entries told h s v up there is = swap_found (lit_by told) (offers_of entries) h s v (offers_ascend entries up) refl there is
-
 pub scan-send : (w : PlainWorld) (h : PlainOffer) (c : ℕ) (v : PlainValue) → Contains (offers_of (pending w)) h → h.base ≡ send c v
     → partners w (place h) ≡ map (pair h) (filter (can_take h.thread c) (offers_of (pending w)))
 scan-send w h c v there is = send_found (lit w) (offers_of (pending w)) h c v (offers_ascend (pending w) (pending_sorted w)) refl there is
@@ -88,14 +74,3 @@ pub scan-heads : (w : PlainWorld)
     → heads w ≡ map place (filter (λ o. lit w o.base) (offers_of (pending w))) ++ map place (filter (has_partner (offers_of (pending w))) (offers_of (pending w)))
 scan-heads w = heads_found (lit w) (lit-alone w) (offers_of (pending w)) (offers_ascend (pending w) (pending_sorted w))
 
-any_agree : (p q : PlainOffer → Bool) (xs : List PlainOffer) → ((o : PlainOffer) → p o ≡ q o) → list_any p xs ≡ list_any q xs
-any_agree p q [] same = refl
-any_agree p q (x ∷ xs) same = rw (same x, any_agree p q xs same) refl
-
--- whether a send has a partner: a receive of its channel in another thread
-pub has_partner-send : (xs : List PlainOffer) (h : PlainOffer) (c : ℕ) (v : PlainValue) → h.base ≡ send c v → has_partner xs h ≡ list_any (can_take h.thread c) xs
-has_partner-send xs h c v is = any_agree (can_meet h) (can_take h.thread c) xs (can_meet-send h c v is)
-
--- whether a swap has a partner: a swap of its swap channel in a thread above its own
-pub has_partner-swap : (xs : List PlainOffer) (h : PlainOffer) (s : ℕ) (v : PlainValue) → h.base ≡ swap s v → has_partner xs h ≡ list_any (can_swap h.thread s) xs
-has_partner-swap xs h s v is = any_agree (can_meet h) (can_swap h.thread s) xs (can_meet-swap h s v is)

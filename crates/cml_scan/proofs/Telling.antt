@@ -1,8 +1,7 @@
 -- What is known of the lights that pending leaves wait for, when threads go and come and lights change.
-use Rattle.std.proofs.Common.{◌≡◌, ℕ, ◌+◌, Bool, true, false, not, nat_eq, nat_lt, cond, List, [], ◌∷◌, ◌++◌, Option, Some, None, refl, ap, sym, subst, arith}
+use Rattle.std.proofs.Common.{◌≡◌, ℕ, ◌+◌, Bool, true, false, not, nat_eq, nat_lt, cond, List, [], ◌∷◌, ◌++◌, refl, ap, sym, subst, arith}
 use Rattle.std.specs.Prelude.{All}
 use Rattle.std.specs.List.{filter}
-use Rattle.std.specs.Borrow.{Bor}
 use Rattle.std.proofs.lemmas.Bool.Decides.{nat_tests}
 use Rattle.std.proofs.lemmas.List.Elements.{All-nil, All-cons, All-head, All-tail, All-append}
 use Rattle.std.proofs.lemmas.List.Concat.{flat_map-append}
@@ -12,7 +11,7 @@ use Rattle.cml_value.specs.declared.number.Tid.{Tid}
 use Rattle.cml_scan.specs.World.{PlainEntry}
 use Rattle.cml_scan.specs.Light.{light, is_told}
 use Rattle.cml_scan.specs.Scan.{PlainOffer, leaves_from, offers_of, is_among}
-use Rattle.cml_scan.specs.Table.{without, with_entry, changed, same_light, AgreeFor}
+use Rattle.cml_scan.specs.Table.{without, with_entry, same_light, AgreeFor}
 use Rattle.cml_scan.specs.declared.object.Light.{Light}
 use Rattle.cml_scan.specs.declared.object.Light.TheVariants as of
 use Rattle.cml_scan.specs.contracts.object.LightPartialEq.TheImpl as derived
@@ -60,17 +59,6 @@ AgreeFor-with_entry e es told lit all own =
     (All-append P (offers_of low) (offers_of (e ∷ high)) (kept P (λ x. nat_lt x.thread e.thread) es all)
     (All-append P (leaves_from e.thread 0 (bases e.group)) (offers_of high)
     (of_leaves (λ b. is_told told (light b) ≡ is_told lit (light b)) e.thread 0 (bases e.group) own) (kept P (λ x. nat_lt e.thread x.thread) es all)))
-
--- the two say the same of each light that a leaf of the group that comes, if one does, waits for
-abbrev pub AgreeForCame : Option (Tid × Bor PlainGroup) → (Light → Bool) → (Light → Bool) → Type 0
-AgreeForCame None told lit = Unit {0}
-AgreeForCame (Some c) told lit = AgreeForGroup c.1.now told lit
-
-pub AgreeFor-changed : (es : List PlainEntry) (gone : List Tid) (came : Option (Tid × Bor PlainGroup))
-    (told lit : Light → Bool) → AgreeFor es told lit → AgreeForCame came told lit
-    → AgreeFor (changed es gone came) told lit
-AgreeFor-changed es gone None told lit all own = AgreeFor-without gone es told lit all
-AgreeFor-changed es gone (Some c) told lit all own = AgreeFor-with_entry (record { thread = c.0.0; group = c.1.now }) (without gone es) told lit (AgreeFor-without gone es told lit all) own
 
 -- the same light, as a test and as a fact
 

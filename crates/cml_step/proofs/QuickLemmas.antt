@@ -13,14 +13,13 @@ use Rattle.cml_step.specs.declared.entry.Entry.TheVariants as entry
 use Rattle.cml_step.specs.declared.fault.Fault.TheVariants.{Stack}
 use Rattle.cml_step.specs.Agrees.{all_agree}
 use Rattle.cml_step.specs.Callers.{calls_on, AllCallsFit, HasRoomAbove}
-use Rattle.cml_step.specs.Calls.{entry_for, entry_in, entry_of, statements_at, text_of, wait_of, WaitFits}
+use Rattle.cml_step.specs.Calls.{entry_for, entry_in, entry_of, text_of, WaitFits}
 use Rattle.cml_step.specs.Faults.{Found}
-use Rattle.cml_step.specs.Variables.{bound}
 use Rattle.cml_step.specs.Machines.{PlainHeld, plain_held, wraps, AreWrapsOf, name_count}
 use Rattle.cml_step.specs.Slices.{GoesIn}
 use Rattle.cml_step.specs.Stacks.{CallFits, EachBeneath, StackFits, term_of}
 use Rattle.cml_step.specs.Steps.{goes_on, fails, ◌>>=◌, is_below_limit, pushed, next, delivered}
-use Rattle.cml_step.specs.Terms.{Program, StackEntry, call, Term, max_entries, call_of}
+use Rattle.cml_step.specs.Terms.{Program, StackEntry, Term, max_entries, call_of}
 use Rattle.cml_step.proofs.AgreeLemmas.{called_agrees}
 use Rattle.cml_step.proofs.SliceLemmas.{goes_more}
 use Rattle.cml_step.proofs.StackLemmas.{begun, begun_fits, term_pushed, pushed_is, fits_popped, beneath_pushed, beneath_popped}
@@ -71,16 +70,6 @@ made_fits p c n t l h w = begun_fits p c (called_agrees (arities p) c.func n c.s
 -- the entry of a call of this function
 pub entry_there : (p : List (PlainItem ℕ)) (f : PlainItem ℕ) (c : Call) → slice_get p c.func ≡ Some f → entry_of p c ≡ entry_for f c
 entry_there p f c h = ap (λ o. entry_in o c) h
-
--- a call in which slots were added
-pub padded_entry : (p : List (PlainItem ℕ)) (f : PlainItem ℕ) (c d : Call) → slice_get p c.func ≡ Some f → d.func ≡ c.func → d.at ≡ c.at → d.wait ≡ c.wait →
-    bound f.names d.slots.items ≡ bound f.names c.slots.items → entry_of p d ≡ entry_of p c
-padded_entry p f c d h e a w b =
-    entry_there p f d (ap (slice_get p) e ∙ h)
-    ∙ ap (λ n. call (statements_at f n) (bound f.names d.slots.items) (wait_of f.names d.wait)) a
-    ∙ ap (λ vs. call (statements_at f c.at) vs (wait_of f.names d.wait)) b
-    ∙ ap (λ x. call (statements_at f c.at) (bound f.names c.slots.items) (wait_of f.names x)) w
-    ∙ sym (entry_there p f c h)
 
 -- a call that agrees, and waits for nothing that has no place
 pub fits_there : (p : List (PlainItem ℕ)) (f : PlainItem ℕ) (c : Call) → c.func < length p → slice_get p c.func ≡ Some f → all_agree (arities p) c.slots.items ≡ true →

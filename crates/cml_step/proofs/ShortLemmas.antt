@@ -28,14 +28,14 @@ use Rattle.cml_step.specs.AnswerViews.{Awaits}
 use Rattle.cml_step.specs.Calls.{placed_in, text_of}
 use Rattle.cml_step.specs.Forced.{with_argument}
 use Rattle.cml_step.specs.Answers as await
-use Rattle.cml_step.specs.Answers.{PlainAwait, top_await, awaited_by, await_of, answer_for, after_answer, with_nack_number, entries_to_come, IsShort}
+use Rattle.cml_step.specs.Answers.{top_await, awaited_by, await_of, answer_for, after_answer, with_nack_number, entries_to_come, IsShort}
 use Rattle.cml_step.specs.Machines.{PlainHeld, PlainMachine, held_entry, held_on, machine_term, AllHeldFit, Fits}
 use Rattle.cml_step.specs.Machines as held
 use Rattle.cml_step.specs.Steps.{PlainStep, goes_on, asks, fails, ◌>>=◌, is_below_limit, pushed, delivered}
 use Rattle.cml_step.specs.Steps.{act_step, one_step, two_step, effect_step, source_step, statement_step, call_step}
 use Rattle.cml_step.specs.Steps.{force_step, wraps_step, next}
 use Rattle.cml_step.specs.Slices.{PlainSlice, carried, sliced_from}
-use Rattle.cml_step.proofs.AwaitLemmas.{begun_runs, sliced_waits}
+use Rattle.cml_step.proofs.AwaitLemmas.{sliced_waits}
 use Rattle.cml_step.proofs.AnswerLemmas.{answered_runs}
 
 -- no more than this many, with the entries that the answer puts on the stack
@@ -245,6 +245,3 @@ answered_fits p m n a h w e s = record {
   short = subst IsShort (sym e) (answered_short (text_of p) a (machine_term p m) h.short (machine_awaits p w.0 m ∙ w.2));
 }
 
--- a thread at the beginning of a call
-pub begun_short : (p : Program) (f : PlainFunction) → IsShort (call_of p f ∷ [])
-begun_short p f = few_short (call_of p f ∷ []) (begun_runs p f []) (omega arith)

@@ -1,13 +1,12 @@
 -- A slice, step by step.
-use Rattle.std.proofs.Common.{◌≡◌, ℕ, zero, suc, ◌+◌, ◌-◌, ◌<◌, ◌≤◌, [], refl, ap, sym, subst, ◌∙◌, arith}
-use Rattle.cml_step.specs.declared.fault.Fault.{Fault}
+use Rattle.std.proofs.Common.{◌≡◌, ℕ, zero, suc, ◌+◌, ◌-◌, ◌<◌, ◌≤◌, refl, ap, sym, subst, ◌∙◌, arith}
 use Rattle.cml_step.specs.declared.ask.Ask.{Ask}
 use Rattle.cml_step.specs.declared.ask.Ask.TheVariants as asks_of
 use Rattle.cml_step.specs.Terms.{Program, Term}
 use Rattle.cml_step.specs.Asks as ask
 use Rattle.cml_step.specs.Asks.{PlainAsk}
 use Rattle.cml_step.specs.AskViews.{plain_ask}
-use Rattle.cml_step.specs.Steps.{PlainStep, goes_on, asks, fails, next}
+use Rattle.cml_step.specs.Steps.{PlainStep, goes_on, asks, next}
 use Rattle.cml_step.specs.Slices.{PlainSlice, carried, sliced, sliced_from, max_steps, GoesIn}
 
 stops : (go : Term → PlainSlice) (n : ℕ) (a : Ask) (t : Term) → (a ≡ asks_of.Nothing → ⊥) → carried go n (plain_ask a) t ≡ record { ask = plain_ask a; end = t; steps = n }
@@ -34,10 +33,6 @@ pub slice_asks : (p : Program) (self k n : ℕ) (t u : Term) (a : Ask) → n < k
 slice_asks p self k n t u a h e g =
     ap (λ m. sliced_from p self m n t) (fewer k n h) ∙ one_step p self (k - (n + 1)) n t (asks (plain_ask a) u) e
     ∙ stops (λ v. sliced_from p self (k - (n + 1)) (n + 1) v) (n + 1) a u g
-
-pub slice_fails : (p : Program) (self k n : ℕ) (t : Term) (why : Fault) → n < k → next p self t ≡ fails why →
-    sliced_from p self (k - n) n t ≡ record { ask = ask.fault why; end = []; steps = n + 1 }
-slice_fails p self k n t why h e = ap (λ m. sliced_from p self m n t) (fewer k n h) ∙ one_step p self (k - (n + 1)) n t (fails why) e
 
 pub slice_over : (p : Program) (self k n : ℕ) (t : Term) (a : Ask) → k ≤ n → a ≡ asks_of.Nothing → sliced_from p self (k - n) n t ≡ record { ask = plain_ask a; end = t; steps = n }
 slice_over p self k n t a h g =

@@ -30,14 +30,13 @@ use Rattle.cml_step.proofs.AgreeLemmas.{all_values}
 use Rattle.cml_step.proofs.ForceLemmas.{list_values}
 use Rattle.cml_step.specs.declared.call.Action.{Action}
 use Rattle.cml_step.specs.declared.call.Action.TheVariants as did
-use Rattle.cml_step.specs.declared.entry.Wraps.{Wraps}
 use Rattle.cml_step.specs.declared.entry.Entry.TheVariants as entry
 use Rattle.cml_step.specs.Terms.{Program, StackEntry, call, wraps, Term, list_of, started, call_of}
 use Rattle.cml_step.specs.Agrees.{functions_agree}
 use Rattle.cml_step.specs.Machines.{PlainHeld, plain_held, held_entry, held_on, HeldFits, HeldFitsBeneath, name_count}
 use Rattle.cml_step.specs.declared.entry.Entry.{Entry}
 use Rattle.cml_step.specs.Shared.{topped, called, HasNoCallOnTop}
-use Rattle.cml_step.specs.Stacks.{CallFits, WrapsFit, term_of, EachBeneath, StackFits, IsStep, StepFits, IsDelivered, EntryStands}
+use Rattle.cml_step.specs.Stacks.{CallFits, term_of, EachBeneath, StackFits, IsStep, StepFits, IsDelivered, EntryStands}
 use Rattle.cml_step.specs.Asks.{PlainAsk}
 use Rattle.cml_step.specs.declared.ask.Ask.{Ask}
 use Rattle.cml_step.specs.declared.ask.Ask.TheVariants as asks_of
@@ -245,24 +244,6 @@ call_stands p (did.Forces e) c h = h
 call_stands p (did.Returns v) c h = tt
 call_stands p (did.Asks a) c h = h
 call_stands p did.Ends c h = tt
-
-pub wraps_stand : (p : List (PlainItem ℕ)) (a : Action) (w : Wraps) → WrapsFit p w → EntryStands p a (plain_held (entry.Wraps w))
-wraps_stand p did.Goes w h = h
-wraps_stand p (did.Calls g args) w h = h
-wraps_stand p (did.Forces e) w h = h
-wraps_stand p (did.Returns v) w h = tt
-wraps_stand p (did.Asks a) w h = h
-wraps_stand p did.Ends w h = tt
-
--- what is left of the entries in their places where the top one goes
-pub over_dropped : (below : List PlainHeld) (own : Option Call) (over : Option Entry) (hs : List PlainHeld)
-    (h : PlainHeld) → topped (called below own) over ≡ hs ++ h ∷ [] → (over ≡ None → ⊥) → called below own ≡ hs
-over_dropped below own None hs h e n = absurd (n refl)
-over_dropped below own (Some o) hs h e n = (top_and_rest (called below own) hs (plain_held o) h e).0
-
-pub call_dropped : (below : List PlainHeld) (own : Option Call) (hs : List PlainHeld) (h : PlainHeld) → (own ≡ None → below ≡ []) → called below own ≡ hs ++ h ∷ [] → below ≡ hs
-call_dropped below None hs h lifted e = absurd (nothing_on_top hs h (sym e ∙ lifted refl))
-call_dropped below (Some c) hs h lifted e = (top_and_rest below hs (plain_held (entry.Call c)) h e).0
 
 -- what comes of what the entry on top did
 pub stands_on : (p : List (PlainItem ℕ)) (es hs : List PlainHeld) (h : PlainHeld) (a : PlainAsk) (step : PlainStep) → es

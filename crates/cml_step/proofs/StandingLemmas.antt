@@ -1,5 +1,5 @@
 -- The statement that has a call wait, and those that are left after it.
-use Rattle.std.proofs.Common.{◌≡◌, ℕ, refl, sym, subst, ap, ◌∙◌}
+use Rattle.std.proofs.Common.{◌≡◌, ℕ, sym, subst, ap, ◌∙◌}
 use Rattle.cml_check.specs.Syntax.{PlainItem, PlainEffect, effect, let_be, just_do, stmts_and, stmts_map, effect_map, name_at}
 use Rattle.cml_check.specs.Layout.{left}
 use Rattle.cml_step.specs.declared.call.Wait.{Wait}
@@ -13,9 +13,6 @@ use Rattle.cml_step.specs.Standing.{StandsAt}
 -- a call that waits for this stands at the place
 abbrev pub StandsSo : PlainItem ℕ → ℕ → Call → Wait → Type 0
 StandsSo f place c w = StandsAt f place (call (statements_at f c.at) (bound f.names c.slots.items) (wait_of f.names w))
-
-pub runs_here : (f : PlainItem ℕ) (c : Call) → c.wait ≡ wait.Runs → StandsAt f c.at (entry_for f c)
-runs_here f c w = subst (StandsSo f c.at c) (sym w) refl
 
 pub drops_here : (f : PlainItem ℕ) (c : Call) (place next : ℕ) (e : PlainEffect ℕ) → c.wait ≡ wait.Drops → next ≡ c.at →
     left f.body place ≡ stmts_and (just_do e) (left f.body next) → StandsAt f place (entry_for f c)

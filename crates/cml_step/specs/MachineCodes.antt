@@ -18,9 +18,6 @@ wait_gv_inj wait.Drops wait.Drops p = refl
 wait_gv_inj (wait.Gives a) (wait.Gives b) p = cc
 wait_gv_inj _ _ p = cc
 
-abbrev pub wait_code : Coded Wait
-wait_code = record { code = wait_gv; inj = wait_gv_inj }
-
 abbrev pub held_gv : PlainHeld → Gv
 held_gv (call f at slots w) = gcons (gnum 0) (gcons (gnum f) (gcons (gnum at) (gcons ((coded_list value_code).code slots) (wait_gv w))))
 held_gv (force e asked) = gcons (gnum 1) (gcons (event_code.code e) (coded_bool.code asked))

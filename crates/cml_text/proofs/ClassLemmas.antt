@@ -24,11 +24,6 @@ use Rattle.cml_text.proofs.PrintedLemmas.{all_of_both, digits_numeral}
 is_byte : (b c : ℕ) → eqb b c ≡ true → c ≡ b
 is_byte b c e = grind (arith, nat_tests)
 
--- a test that fails, where the other of two passes
-other_passes : (x y : Bool) → (x || y) ≡ true → x ≡ false → y ≡ true
-other_passes true y h e = absurd (false≢true (sym e))
-other_passes false y h e = h
-
 pub separates_test : (b : ℕ) → Separates b → is_separator b ≡ true
 separates_test b Separates.space = refl
 separates_test b Separates.tab = refl

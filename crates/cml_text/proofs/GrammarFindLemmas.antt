@@ -362,10 +362,6 @@ negated : (x : Bool) → not x ≡ false → x ≡ true
 negated true e = refl
 negated false e = absurd (false≢true (sym e))
 
-ends_token : (text : List ℕ) → Stops is_token_byte text → EndsOrDelimits text
-ends_token [] stop = tt
-ends_token (b ∷ text) stop = test_delimits b (negated (is_delimiter b) stop)
-
 stops_front : (front behind rest : List ℕ) → front ++ rest ≡ behind → Stops is_token_byte behind → EndsOrDelimits front
 stops_front [] behind rest e stop = tt
 stops_front (b ∷ front) [] rest e stop = absurd (cc)

@@ -1,13 +1,12 @@
 -- The lexemes so far, as others are opened and closed.
-use Rattle.std.proofs.Common.{◌≡◌, ℕ, ◌+◌, ◌-◌, ◌<◌, ◌≤◌, true, false, ltb, List, [], ◌∷◌, ◌++◌, length, refl, ap, sym, ◌∙◌, arith, Some, append_assoc}
+use Rattle.std.proofs.Common.{◌≡◌, ℕ, ◌+◌, ◌-◌, ◌<◌, ◌≤◌, true, ltb, List, [], ◌∷◌, ◌++◌, length, refl, ap, sym, ◌∙◌, arith, append_assoc}
 use Rattle.std.specs.Prelude.{map, reverse}
 use Rattle.std.proofs.lemmas.List.{append-nil, map-append, reverse-append, length-reverse, length-map}
 use Rattle.std.proofs.lemmas.Bool.Decides.{nat_tests}
 use Rattle.cml_text.specs.declared.nest.OpenList.{OpenList}
 use Rattle.cml_text.specs.declared.sexpr.Span.{Span}
-use Rattle.cml_text.specs.declared.fault.FaultKind.TheVariants.{Deep, Stray}
 use Rattle.cml_text.specs.Forms.{PlainSexpr, plain_list, plain_forms}
-use Rattle.cml_text.specs.Lexemes.{Lexeme, opening, closing, leaf}
+use Rattle.cml_text.specs.Lexemes.{opening, closing, leaf}
 use Rattle.cml_text.specs.Texts.{words, first_fault}
 use Rattle.cml_text.specs.Steps.{IsLeaf}
 use Rattle.cml_text.specs.Nests.{words_in, words_before, words_so_far, starts, TakesWord}
@@ -45,13 +44,6 @@ takes_opening lists lists' forms forms' list at room is starts_at before none =
           rw test (ap (first_fault rest) (sym next));
     }
 
--- a list would be too deep
-pub opening_deep : (lists : List OpenList) (at : ℕ) (rest : List Lexeme) → 256 ≤ length lists → first_fault (opening at ∷ rest) (starts lists) ≡ Some (record { kind = Deep; at = at })
-opening_deep lists at rest deep =
-    let many : 256 ≤ length (starts lists) = omega (arith, length-starts lists) in
-    let test : ltb (length (starts lists)) 256 ≡ false = grind (arith, nat_tests) in
-    rw test refl
-
 -- a list was closed
 pub takes_closing : (lists lists' : List OpenList) (forms forms' : List PlainSexpr) (list : OpenList) (at : ℕ)
     (span : Span) → lists ≡ lists' ++ list ∷ [] → span.start ≡ list.start → span.end ≡ at + 1 →
@@ -67,10 +59,6 @@ takes_closing lists lists' forms forms' list at span is starts_at ends_at made =
           let next : starts lists ≡ list.start ∷ starts lists' = ap starts is ∙ starts-push lists' list in
           rw next refl;
     }
-
-pub closing_stray : (lists : List OpenList) (at : ℕ) (rest : List Lexeme) → length lists ≡ 0 → first_fault (closing (at + 1) ∷ rest) (starts lists) ≡ Some (record { kind = Stray; at = at })
-closing_stray [] at rest none = let e : at + 1 - 1 ≡ at = omega arith in rw e refl
-closing_stray (list ∷ lists) at rest none = absurd (omega arith)
 
 -- a form that is no list was taken
 pub takes_leaf : (lists : List OpenList) (forms forms' : List PlainSexpr) (form : PlainSexpr) → IsLeaf form → forms' ≡ forms ++ form ∷ [] → TakesWord (leaf form) lists forms lists forms'

@@ -28,10 +28,6 @@ escaped_run (b ∷ bytes) =
       | inr e ↦ rw e refl
     ]
 
-pub escaped_first : (special : List ℕ) → 0 < length special → flat_map escaped special ≡ escaped (get_or special 0 0) ++ flat_map escaped (drop 1 special)
-escaped_first [] some = absurd (omega arith)
-escaped_first (b ∷ special) some = refl
-
 -- the bytes up to the first escape were appended
 pub appended_run : (old new rest plain special bytes : List ℕ) (n : ℕ) → n ≡ prefix_len needs_no_escape bytes → bytes ≡ rest → plain ≡ take n rest → special ≡ drop n rest → new ≡ old ++ plain →
     new ++ flat_map escaped special ≡ old ++ flat_map escaped rest
@@ -50,13 +46,6 @@ run_needs_escape rest special bytes n count is cut more =
     let z : n + 0 ≡ prefix_len needs_no_escape rest = omega arith in
     let here : get_or special 0 0 ≡ get_or rest (prefix_len needs_no_escape rest) 0 = ap (λ r. get_or r 0 0) cut ∙ get_or-drop n rest 0 0 ∙ ap (λ k. get_or rest k 0) z in
     rw here (prefix_len_stops needs_no_escape rest 0 (omega arith))
-
--- the escape of the first byte was appended
-pub appended_first : (old new special rest : List ℕ) → 0 < length special → new ≡ old ++ escaped (get_or special 0 0)
-    → rest ≡ drop 1 special → new ++ flat_map escaped rest ≡ old ++ flat_map escaped special
-appended_first old new special rest some added cut =
-    ap (λ t. t ++ flat_map escaped rest) added ∙ append_assoc old (escaped (get_or special 0 0)) (flat_map escaped rest)
-    ∙ ap (λ t. old ++ t) (ap (λ r. escaped (get_or special 0 0) ++ flat_map escaped r) cut ∙ sym (escaped_first special some))
 
 -- one more member of a list
 printed_behind-push : (forms : List PlainSexpr) (form : PlainSexpr) → printed_behind (plain_forms (forms ++ form ∷ [])) ≡ printed_behind (plain_forms forms) ++ 32 ∷ printed_form form

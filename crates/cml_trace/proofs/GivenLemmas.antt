@@ -1,5 +1,5 @@
 -- Lists of values that may be missing, looked at from the left.
-use Rattle.std.proofs.Common.{◌≡◌, ℕ, suc, ◌+◌, ◌<◌, ◌++◌, List, [], ◌∷◌, map, drop, length, get_or, Option, Some, None, refl, ap, sym, ◌∙◌, append_assoc, append-nil, add-one}
+use Rattle.std.proofs.Common.{◌≡◌, ℕ, suc, ◌+◌, ◌<◌, ◌++◌, List, [], ◌∷◌, map, drop, length, get_or, Option, Some, None, refl, ap, sym, ◌∙◌, append_assoc, add-one}
 use Rattle.std.proofs.Math.Seq.{drop-cons}
 use Rattle.cml_trace.specs.Given.{both, all_of}
 
@@ -18,12 +18,6 @@ onto-there-of xs x (Some ys) = ap (λ zs. Some zs) (sym (append_assoc xs (x ∷ 
 
 pub onto-there : {A : Type 0} (xs : List A) (x : A) (os : List (Option A)) → onto xs (all_of (Some x ∷ os)) ≡ onto (xs ++ x ∷ []) (all_of os)
 onto-there xs x os = onto-there-of xs x (all_of os)
-
-pub onto-missing : {A : Type 0} (xs : List A) (os : List (Option A)) → onto xs (all_of (None ∷ os)) ≡ None
-onto-missing xs os = refl
-
-pub onto-end : {A : Type 0} (xs : List A) → onto xs (all_of []) ≡ Some xs
-onto-end xs = ap (λ zs. Some zs) (append-nil xs)
 
 -- one more was found
 pub onto-next : {X A : Type 0} (f : X → Option A) (forms : List X) (i : ℕ) (form : X) (xs : List A) (x : A) (all : Option (List A)) →

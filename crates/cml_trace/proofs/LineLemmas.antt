@@ -1,6 +1,6 @@
 -- Where the first line of a text ends.
 use Rattle.std.proofs.lemmas.List.{drop_more, get_or-drop, take-append-drop}
-use Rattle.std.proofs.Common.{below_more, MatchOption, Option, Some, None, ◌≡◌, ◌≢◌, ℕ, zero, suc, ◌+◌, ◌-◌, ◌<◌}
+use Rattle.std.proofs.Common.{◌≡◌, ◌≢◌, ℕ, zero, suc, ◌+◌, ◌-◌, ◌<◌}
 use Rattle.std.proofs.Common.{◌≤◌, ◌==◌, Bool, true, false, List, [], ◌∷◌, ◌++◌, length, take, drop, get_or, refl}
 use Rattle.std.proofs.Common.{ap, sym, ◌∙◌, arith, length-drop, take_all, add-one}
 use Rattle.std.specs.List.{onto_first}
@@ -181,13 +181,3 @@ none_after input i f =
 pub none_at_all : (input : List ℕ) → NoFeedBelow input (length input) → HasNoFeed input
 none_at_all input none = All-from_get_or (λ b. b ≢ 10) input 0 none
 
--- one more byte is a line feed, or is not
-pub feed_here : (input : List ℕ) (n : ℕ) → get_or input n 0 ≡ 10 → LastFeedBelow input (n + 1) n
-feed_here input n is = record { below = omega arith; is = is; last = λ k lt le. absurd (omega arith) }
-
-pub no_feed_here : (input : List ℕ) (n : ℕ) (last : Option ℕ) → get_or input n 0 ≢ 10 → MatchOption last (NoFeedBelow input n) (λ i. LastFeedBelow input n i) →
-    MatchOption last (NoFeedBelow input (n + 1)) (λ i. LastFeedBelow input (n + 1) i)
-no_feed_here input n None isnt h = below_more (λ k. get_or input k 0 ≢ 10) n h isnt
-no_feed_here input n (Some i) isnt h =
-    let below = h.below in
-    record { below = omega arith; is = h.is; last = λ k more lt. below_more (λ k. i < k → get_or input k 0 ≢ 10) n (λ k lt more. h.last k more lt) (λ more. isnt) k lt more }

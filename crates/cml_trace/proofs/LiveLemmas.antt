@@ -170,17 +170,6 @@ never_long n w [] text a = let clash = a.1 in cc
 never_long n w (first ∷ all) text (inl a) = never_long (n + 1) (after_order a.0 w) all a.1 a.4
 never_long n w (first ∷ all) text (inr a) = let clash = a.2 in cc
 
--- at the end of the input the line that was begun is the last
-pub ends_last : (old : PlainBegun) (w v : PlainWorld) (input output : Stream) (end : TraceEnd) → Supplies input [] → IsSpent input →
-    AreWritten (lines_from old.number old.bytes) w v output end → Ends old w input output end
-ends_last old w v input output end came spent a = record {
-  given = [];
-  text = a.text;
-  came = came;
-  answered = inl (spent, subst (λ (bs : List ℕ). Answers old.number w (trace_lines bs) a.text end) (sym (append-nil old.bytes)) a.answered);
-  written = a.written;
-}
-
 pub cut_last : (old : PlainBegun) (w : PlainWorld) (input output : Stream) → Supplies input [] → IsSpent input → AreWrittenTo (lines_from old.number old.bytes) w output → TurnIsCut old w input output
 cut_last old w input output came spent a = record {
   given = [];

@@ -1,5 +1,5 @@
 -- From a state back to the start.
-use Rattle.std.proofs.Common.{◌≡◌, ℕ, ◌+◌, ◌-◌, ◌<◌, List, [], ◌∷◌, ◌++◌, reverse, Option, None, Some, slice_get, refl, ap, sym, ◌∙◌, arith}
+use Rattle.std.proofs.Common.{◌≡◌, ℕ, ◌+◌, ◌-◌, ◌<◌, List, [], ◌∷◌, ◌++◌, reverse, Option, None, Some, slice_get, refl, ap, ◌∙◌, arith}
 use Rattle.std.specs.Prelude.{option_and_then}
 use Rattle.std.proofs.lemmas.List.{reverse-append}
 use Rattle.cml_verify.specs.Systems.{System, run}
@@ -22,13 +22,3 @@ module _ {S I : Type 0} (y : System S I) where
       ap (λ l. option_and_then (λ s. run y s l) (slice_get states o.0)) (reverse-append items (o.1 ∷ []))
       ∙ (step_first (slice_get states o.0) o.1 (reverse items) ∙ (ap (λ p. option_and_then (λ u. run y u (reverse items)) p) came ∙ leads))
 
-  pub back_none : (states : List S) (place : ℕ) → LeadsBack states [] place place
-  back_none states place = by (slice_get states place)
-    where
-      by : (o : Option S) → option_and_then (λ s. Some s) o ≡ o
-      by None = refl
-      by (Some s) = refl
-
-  pub back_all : (states : List S) (origins : List (ℕ × I)) (items : List I) (place : ℕ) → IsTrail y states origins → LeadsBack states items 0 place
-      → run y y.start (reverse items) ≡ slice_get states place
-  back_all states origins items place t leads = ap (λ p. option_and_then (λ s. run y s (reverse items)) p) (sym t.start) ∙ leads

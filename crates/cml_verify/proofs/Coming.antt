@@ -2,19 +2,15 @@
 use Rattle.std.proofs.Common.{◌≡◌, ℕ, Bool, true, false, ◌&&◌, if◌then◌else◌, map, Option, None, Some, refl, ap, sym, ◌∙◌}
 use Rattle.std.specs.Prelude.{option_map, is_some, slice_get}
 use Rattle.std.proofs.lemmas.Option.{slice_get-map}
-use Rattle.cml_scan.specs.Scan.{scan, has_row}
-use Rattle.cml_scan.specs.declared.meet.Meet.{Meet}
 use Rattle.cml_value.specs.declared.number.Tid.{Tid}
 use Rattle.cml_book.specs.Walks.{is_running}
-use Rattle.cml_book.specs.Swaps.{swaps}
-use Rattle.cml_schedule.specs.declared.item.Item.{Item}
-use Rattle.cml_schedule.specs.declared.item.Item.TheVariants.{Turn, Meet as Commit, Exchange, Clock}
+use Rattle.cml_schedule.specs.declared.item.Item.TheVariants.{Turn, Clock}
 use Rattle.cml_step.specs.Calls.{text_of}
 use Rattle.cml_step.specs.Machines.{machine_term}
 use Rattle.cml_step.specs.Slices.{sliced}
 use Rattle.cml_hub.specs.declared.fault.End.TheVariants.{Quiet, Budget, Partial}
 use Rattle.cml_hub.specs.Courses.{PlainCourse, run_of}
-use Rattle.cml_hub.specs.Runs.{Run, is_allowed, after_item, turned_by, met, ticked}
+use Rattle.cml_hub.specs.Runs.{Run, is_allowed, after_item, turned_by, ticked}
 use Rattle.cml_verify.specs.Cores.{can}
 
 some_mapped : {X Y : Type 0} (f : X → Y) (o : Option X) → is_some (option_map f o) ≡ is_some o
@@ -38,12 +34,6 @@ module _ (c : PlainCourse) where
       let there : is_some (after_item p r (Turn t)) ≡ is_some (slice_get c.machines t.0) =
       some_mapped (λ term. turned_by p r t.0 (sliced p t.0 term)) (slice_get (map f c.machines) t.0) ∙ (ap is_some (slice_get-map f c.machines t.0) ∙ some_mapped f (slice_get c.machines t.0)) in
       sym (can_where (is_running c.world t.0) (after_item p r (Turn t)) ∙ ap (λ b. is_running c.world t.0 && b) there)
-
-  pub can_commit : (row : Meet) → has_row (scan c.world) row ≡ can (text_of c.program) (run_of c) (Commit row)
-  can_commit row = sym (can_if (has_row (scan c.world) row) (met (text_of c.program) (run_of c) row))
-
-  pub can_exchange : (row : Meet) → swaps c.world row ≡ can (text_of c.program) (run_of c) (Exchange row)
-  can_exchange row = sym (can_if (swaps c.world row) (met (text_of c.program) (run_of c) row))
 
   pub can_tick : (tick : ℕ) → is_allowed c.world (Clock tick) ≡ can (text_of c.program) (run_of c) (Clock tick)
   can_tick tick = sym (can_if (is_allowed c.world (Clock tick)) (ticked (run_of c) tick))

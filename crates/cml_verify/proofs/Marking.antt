@@ -1,17 +1,16 @@
 -- Marks at places, one more.
-use Rattle.std.proofs.Common.{◌≡◌, ℕ, zero, suc, ◌+◌, ◌<◌, ◌≤◌, Bool, true, false, not, cond, List, [], ◌∷◌, length, drop, take, get_or, replicate, set, Option, None, Some}
+use Rattle.std.proofs.Common.{◌≡◌, ℕ, zero, suc, ◌+◌, ◌<◌, ◌≤◌, Bool, true, false, not, cond, List, [], ◌∷◌, length, drop, take, get_or, set, Option, None, Some}
 use Rattle.std.proofs.Common.{slice_get, Contains, ◌⊎◌, inl, inr, refl, ap, sym, subst, ◌∙◌, arith, drop-cons, length-set, true≢false}
 use Rattle.std.specs.Prelude.{count_by, IfSome, IfNone}
 use Rattle.std.specs.List.{All}
-use Rattle.std.proofs.lemmas.List.{drop_all}
-use Rattle.std.proofs.lemmas.List.Elements.{All-contains, All-nil, All-cons, All-more, All-weaker}
+use Rattle.std.proofs.lemmas.List.Elements.{All-contains, All-cons, All-more, All-weaker}
 use Rattle.std.proofs.lemmas.List.Sums.{sum_by-set}
 use Rattle.std.proofs.lemmas.Option.{slice_get_within, get_or_from_slice_get, same_Some, IfSome_then}
 use Rattle.cml_verify.specs.Systems.{System, run, IsReached, IsLawful, CanReach}
-use Rattle.cml_verify.specs.Searches.{Keeps, AreEnough, LeadsOnBy, IsEdge, AreEdges}
+use Rattle.cml_verify.specs.Searches.{Keeps, LeadsOnBy, IsEdge, AreEdges}
 use Rattle.cml_verify.specs.Marks.{IsMarked, IsBackClosed, ArePlacesOf, AllCanReach}
-use Rattle.cml_verify.proofs.Runs.{at_some, begins, run-cons, reached_next}
-use Rattle.cml_verify.specs.Places.{all_at, place_in, there}
+use Rattle.cml_verify.proofs.Runs.{at_some, begins, run-cons}
+use Rattle.cml_verify.specs.Places.{all_at, there}
 
 pub set_here : (marks : List Bool) (k : ℕ) → k < length marks → IsMarked (set marks k true) k
 set_here [] k lt = absurd (omega (arith, lt))
@@ -31,11 +30,6 @@ set_only (b ∷ marks) zero zero h = inr refl
 set_only (b ∷ marks) zero (suc j) h = inl h
 set_only (b ∷ marks) (suc k) zero h = inl h
 set_only (b ∷ marks) (suc k) (suc j) h = elim (set_only marks k j h) [ inl e ↦ inl e | inr e ↦ inr (ap suc e) ]
-
-pub none_marked : (n k : ℕ) → IsMarked (replicate n false) k → ⊥
-none_marked zero k h = cc
-none_marked (suc n) zero h = true≢false (sym (same_Some false true h))
-none_marked (suc n) (suc k) h = none_marked n k h
 
 -- one fewer is not marked
 pub one_fewer : (marks : List Bool) (k : ℕ) → k < length marks → get_or marks k true ≡ false → count_by not (set marks k true) + 1 ≡ count_by not marks
@@ -156,16 +150,6 @@ module _ {S I : Type 0} (y : System S I) (states : List S) (edges : List (ℕ ×
     pub fewer : count_by not marks + count ≡ count_by not old
     pub closed : count ≡ 0 → IsBackClosed (drop at edges) marks
 
-  pub walk_begins : (old : List Bool) → WalksBack old (length edges) 0 old
-  walk_begins old = record {
-    within = omega arith;
-    size = refl;
-    keeps = λ k h. h;
-    only = λ over h. h;
-    fewer = omega arith;
-    closed = λ _. subst (λ l. IsBackClosed l old) (sym (drop_all (length edges) edges (omega arith))) (All-nil (λ e. IsMarked old e.2 → IsMarked old e.0));
-  }
-
   module _ (each : All (IsEdge y states) edges) (old : List Bool) (at count : ℕ) (marks : List Bool) (e : ℕ × I × ℕ)
       (w : WalksBack old (at + 1) count marks) (here : slice_get edges at ≡ Some e) where
     edge : IsEdge y states e
@@ -208,13 +192,6 @@ pub record MarksAt (places : List ℕ) (count n : ℕ) (marks : List Bool) : Typ
   pub size : length marks ≡ count
   pub each : All (IsMarked marks) (take n places)
   pub only : (k : ℕ) → IsMarked marks k → Contains places k
-
-pub marks_none : (places : List ℕ) (count : ℕ) (marks : List Bool) → length marks ≡ count → marks ≡ replicate count false → MarksAt places count 0 marks
-marks_none places count marks size is = record {
-  size = size;
-  each = All-nil (IsMarked marks);
-  only = λ k h. absurd (none_marked count k (subst (λ l. IsMarked l k) is h));
-}
 
 pub marks_more : (places : List ℕ) (count n : ℕ) (marks after : List Bool) (place : ℕ) → MarksAt places count n marks → place < count → slice_get places n ≡ Some place
     → after ≡ set marks place true → MarksAt places count (n + 1) after

@@ -47,17 +47,6 @@ same_next f xs ys i x y in_x in_y x_is y_is e =
     let t = same_tails (f x) (f y) (map f (drop (i + 1) xs)) (map f (drop (i + 1) ys)) e in
     (λ h. t.0 (sym nx ∙ (h ∙ ny)), λ h. nx ∙ (t.1 h ∙ sym ny))
 
--- what comes first differs, so the lists do
-pub other_next : {A X : Type 0} (f : A → X) (xs ys : List A) (i : ℕ) (x y : A) → i < length xs → i < length ys → x ≡ get_or xs i x → y ≡ get_or ys i y → (f x ≡ f y → ⊥)
-    → map f (drop i xs) ≡ map f (drop i ys) → ⊥
-other_next f xs ys i x y in_x in_y x_is y_is n h =
-    let nx = next_is f xs i x in_x x_is in
-    let ny = next_is f ys i y in_y y_is in
-    n (heads (f x) (f y) (map f (drop (i + 1) xs)) (map f (drop (i + 1) ys)) (sym nx ∙ (h ∙ ny)))
-  where
-    heads : {X : Type 0} (x y : X) (xs ys : List X) → x ∷ xs ≡ y ∷ ys → x ≡ y
-    heads x y xs ys e = cc
-
 -- one more was appended
 pub grows : {X : Type 0} (old items after xs : List X) (k : ℕ) (x : X) → after ≡ items ++ x ∷ [] → items ≡ old ++ take k xs → slice_get xs k ≡ Some x → after ≡ old ++ take (k + 1) xs
 grows old items after xs k x e h at = e ∙ (ap (λ l. l ++ x ∷ []) h ∙ (append_assoc old (take k xs) (x ∷ []) ∙ ap (λ l. old ++ l) (sym (taken_next xs k x at))))

@@ -1,13 +1,10 @@
 -- What a book shows of a thread and of a queue.
 use Rattle.std.proofs.Common.{◌≡◌, ℕ, ◌<◌, true, false, List, [], length, Option, None, Some, slice_get, refl, ap, sym, ◌∙◌, true≢false}
 use Rattle.std.specs.Prelude.{option_map, unwrap_or}
-use Rattle.std.specs.Option.{option_map_or, option_and_then}
-use Rattle.std.proofs.lemmas.Option.{same_Some}
+use Rattle.std.specs.Option.{option_map_or}
 use Rattle.cml_value.specs.Value.{PlainValue}
-use Rattle.cml_value.specs.Group.{PlainGroup}
 use Rattle.cml_scan.specs.World.{PlainThread, running, pending_on, ended}
 use Rattle.cml_book.specs.Walks.{runs}
-use Rattle.cml_book.specs.Threads.{flat_of}
 use Rattle.cml_book.specs.Holding.{item_in}
 use Rattle.cml_verify.specs.Places.{there}
 
@@ -16,18 +13,6 @@ runs_is None h = absurd (true≢false (sym h))
 runs_is (Some running) h = refl
 runs_is (Some (pending_on g)) h = absurd (true≢false (sym h))
 runs_is (Some ended) h = absurd (true≢false (sym h))
-
-pub waits_is : (o : Option PlainThread) (g : PlainGroup) → Some g ≡ option_and_then flat_of o → o ≡ Some (pending_on g)
-waits_is None g h = absurd (cc)
-waits_is (Some running) g h = absurd (cc)
-waits_is (Some (pending_on k)) g h = ap (λ x. Some (pending_on x)) (sym (same_Some g k h))
-waits_is (Some ended) g h = absurd (cc)
-
-pub ended_is : (o : Option PlainThread) (x : PlainThread) → o ≡ Some x → option_map_or runs o false ≡ false → None ≡ option_and_then flat_of o → o ≡ Some ended
-ended_is None x e h n = absurd (cc)
-ended_is (Some running) x e h n = absurd (true≢false h)
-ended_is (Some (pending_on k)) x e h n = absurd (cc)
-ended_is (Some ended) x e h n = refl
 
 -- the items of a queue, and how many there are; one that is not there has none
 pub counted : (o : Option (List PlainValue)) → unwrap_or (option_map length o) 0 ≡ length (unwrap_or o [])

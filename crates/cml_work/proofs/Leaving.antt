@@ -1,10 +1,10 @@
 -- How runs end that do not come to their end.
-use Rattle.std.proofs.Common.{◌≡◌, ℕ, List, Bool, true, false, true≢false, Result, Ok, Err, IfErr, length, refl, sym, ap, subst, ◌∙◌}
+use Rattle.std.proofs.Common.{◌≡◌, ℕ, List, Bool, true, false, true≢false, length, sym, ap, subst, ◌∙◌}
 use Rattle.cml_schedule.specs.Reports.{PlainReport}
 use Rattle.cml_hub.specs.Kept.{Kept}
 use Rattle.cml_stream.specs.Streams.{Stream, Takes}
 use Rattle.cml_work.specs.Marks.{BeginsWith}
-use Rattle.cml_work.specs.Seen.{texts_of, FaultWrites, failed_at, failed_after_all}
+use Rattle.cml_work.specs.Seen.{texts_of, FaultWrites}
 use Rattle.cml_work.specs.Works.{IsWorkerCount, PlainOpening, opening_of, OpenedBy, GoesOnFrom, IsForeignFault, IsLeft, IsCut, BreaksAfter, WatchBreaks, WatchFails}
 use Rattle.cml_work.specs.declared.fault.WorkFault.{WorkFault}
 use Rattle.cml_work.specs.declared.fault.WorkFault.TheVariants.{Count, Memory, Start, Write, Foreign}
@@ -53,23 +53,6 @@ foreign_writes output hub reports (Foreign new seen) begins took h = (
   subst (λ (l : List PlainReport). Takes output (texts_of l)) (sym h.1) took,
   subst (λ (x : List PlainReport × List PlainReport). BeginsWith x.0 x.1) (λ i. (sym (ap (λ (k : Kept). k.reports) h.0) i, sym h.1 i)) begins,
 )
-
--- no write has failed
-pub foreign_failed : {A : Type 0} (hub : Kept) (reports : List PlainReport) (r : Result A WorkFault) (failed : ℕ)
-    → IfErr r (λ fault. IsForeignFault hub reports fault) → failed ≡ failed_after_all r failed
-foreign_failed hub reports (Ok x) failed h = refl
-foreign_failed hub reports (Err (Count new)) failed h = refl
-foreign_failed hub reports (Err (Memory new)) failed h = refl
-foreign_failed hub reports (Err (Start new)) failed h = refl
-foreign_failed hub reports (Err (Write new)) failed h = absurd h
-foreign_failed hub reports (Err (Foreign new seen)) failed h = refl
-
-pub failed_all : (A : Type 0) (fault : WorkFault) (failed : ℕ) → failed_at fault failed ≡ failed_after_all {A = A} (Err fault) failed
-failed_all A (Count new) failed = refl
-failed_all A (Memory new) failed = refl
-failed_all A (Start new) failed = refl
-failed_all A (Write new) failed = refl
-failed_all A (Foreign new seen) failed = refl
 
 -- a run that broke off fails
 pub breaks_fail : (hub : Kept) (workers : ℕ) (fault : WorkFault) → IsWorkerCount workers → WatchBreaks hub fault → WatchFails hub workers fault

@@ -8,7 +8,7 @@ use Rattle.crossbeam_utils.specs.Register.{Turns, Forks, Merges}
 use Rattle.atomic_table.proofs.Lists.{at_set, at_snoc, set_again}
 use Rattle.cml_schedule.specs.Reports.{PlainReport}
 use Rattle.cml_work.specs.declared.marks.Known.{Known}
-use Rattle.cml_work.specs.Marks.{BeginsWith, knower, nobody, shown_all, with_shown, MarksAgree, Learned, PlainMark, IsKeeper, WasShown, known_of, shown_of}
+use Rattle.cml_work.specs.Marks.{BeginsWith, knower, nobody, shown_all, with_shown, MarksAgree, Learned, PlainMark, IsKeeper, known_of}
 
 pub begins_same : (xs : List PlainReport) → BeginsWith xs xs
 begins_same xs = ([], sym (append-nil xs))
@@ -92,13 +92,6 @@ keeps_known board all mark k = (k.0, k.1 ∙ ap knower (sym (ap (λ (v : Known).
 
 pub knows : (board : TableId) (all list : List PlainReport) (mark : PlainMark) → IsKeeper board all mark → BeginsWith list all → BeginsWith list (known_of mark)
 knows board all list mark k b = subst (BeginsWith list) (sym (ap (λ (v : Known). v.all) k.1)) b
-
--- a mark that was shown these was shown what it was shown
-pub shows_shown : (board : TableId) (list : List PlainReport) (mark : PlainMark) → WasShown board list mark → WasShown board (shown_of mark) mark
-shows_shown board list mark s = (s.0, s.1, s.2 ∙ ap (λ l. shown_all (knower l)) (sym (ap (λ (v : Known). v.shown) s.2)))
-
-pub was_shown : (board : TableId) (list : List PlainReport) (mark : PlainMark) → WasShown board list mark → shown_of mark ≡ list
-was_shown board list mark s = ap (λ (v : Known). v.shown) s.2
 
 -- one element more
 pub begins_next : (list first : List PlainReport) (r : PlainReport) → BeginsWith list first → slice_get list (length first) ≡ Some r → BeginsWith list (first ++ r ∷ [])

@@ -8,7 +8,7 @@ use Rattle.std.proofs.lemmas.List.{take-append-drop, length-drop}
 use Rattle.cml_schedule.specs.Reports.{PlainReport, report_text}
 use Rattle.cml_stream.specs.Streams.{Stream, stream, Takes, TakesStart}
 use Rattle.cml_work.specs.Marks.{BeginsWith}
-use Rattle.cml_work.specs.Seen.{texts_of, BreaksOff, IsSentOut, IsWatched}
+use Rattle.cml_work.specs.Seen.{texts_of, IsSentOut, IsWatched}
 use Rattle.cml_work.specs.declared.fault.WatchFault.{WatchFault}
 use Rattle.cml_work.specs.declared.fault.WatchFault.TheVariants as watch_fault
 use Rattle.cml_work.proofs.Sending.{start_behind, sent_behind}
@@ -26,10 +26,6 @@ pub starts_within : (a b c : Option (List ℕ)) (seen : List PlainReport) (r : P
     → Takes (stream a b) (texts_of seen) → TakesStart (stream b c) (report_text r) → TakesStart (stream a c) (texts_of (seen ++ r ∷ []))
 starts_within a b c seen r p q = rw (texts_more seen r) (start_behind a b c (texts_of seen) (report_text r) p q)
 
--- nothing more was written
-pub takes_no_more : (a b c : Option (List ℕ)) (seen : List PlainReport) → Takes (stream a b) (texts_of seen) → Takes (stream b c) [] → Takes (stream a c) (texts_of seen)
-takes_no_more a b c seen p q = subst (λ (l : List ℕ). Takes (stream a c) l) (append-nil (texts_of seen)) (Appends-trans a b c (texts_of seen) [] p q)
-
 -- a prefix of the bytes that are this text
 pub starts_with : (output : Stream) (text bytes : List ℕ) (n : ℕ) → bytes ≡ text → Takes output (take n bytes) → TakesStart output text
 starts_with output text bytes n same took = (take n bytes, drop n bytes, sym same ∙ sym (take-append-drop n bytes), took)
@@ -42,11 +38,6 @@ starts_more output all first (rest, is) (part, unwritten, split, took) = (
   ap texts_of is ∙ flat_map-append report_text first rest ∙ ap (λ l. l ++ texts_of rest) split ∙ append_assoc part unwritten (texts_of rest),
   took,
 )
-
--- what a watcher wrote that gave up are the lines of some reports
-pub breaks_watched : (output : Stream) (seen : List PlainReport) (fault : WatchFault) → IsWatched output seen (Some fault) → BreaksOff output
-breaks_watched output seen watch_fault.Memory took = (seen, (texts_of seen, [], sym (append-nil _), took))
-breaks_watched output seen watch_fault.Write took = (seen, took)
 
 pub watched_broke : (output : Stream) (seen : List PlainReport) (fault : Option WatchFault) (w : WatchFault) → fault ≡ Some w → w ≡ watch_fault.Write
     → IsWatched output seen fault → TakesStart output (texts_of seen)
