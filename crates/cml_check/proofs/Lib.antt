@@ -14,3 +14,4 @@ pub mod Walk
 pub mod Fit
 pub mod Instrs
 pub mod OpLemmas
+pub mod Crossing

@@ -21,3 +21,4 @@ pub mod OneLineLemmas
 pub mod ListLemmas
 pub mod FaultLemmas
 pub mod PrefixLemmas
+pub mod Crossing
