@@ -112,4 +112,3 @@ lights_in-cons b bs = at (light b)
     at : (o : Option Light) → cons_option o (lights_in bs) ≡ cons_option o [] ++ lights_in bs
     at None = refl
     at (Some l) = refl
-

@@ -89,4 +89,3 @@ pub stand-end : (at : ℕ) (role : Role) (word : Option Word) (given i : ℕ) (f
     length forms ≤ i → stand_among at role word given i (plain_forms (drop i forms)) ≡ all → None ≡ all
 unfolding stand_among
 stand-end at role word given i forms all le inv = ap (λ fs. stand_among at role word given i (plain_forms fs)) (sym (drop_of_length-le forms le)) ∙ inv
-

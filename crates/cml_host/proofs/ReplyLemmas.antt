@@ -127,4 +127,3 @@ pub kept_some : (reply : Reply) (i : ℕ) (f : code.File) (errors : Passage) (st
 kept_some reply i f errors store status at saved told is = inr ((_, plain_file f, _, split_at reply.files.items i f saved.0 at, saved.1, told), is)
 
 -- ---- how a reply was carried out
-

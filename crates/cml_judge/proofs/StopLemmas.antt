@@ -140,4 +140,3 @@ stops_so (Ok (Some n)) properties p items at tells comes = record {
 }
 stops_so (Ok None) properties p items at tells none = λ k broken. none k (come_if properties p items at k (stands p (take k items)) refl tells broken)
 stops_so (Err e) properties p items at tells comes = tt
-

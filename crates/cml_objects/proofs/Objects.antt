@@ -72,4 +72,3 @@ room_after has_room (z ∷ zs) zero x y e kept zero h = (let same : z ≡ x = cc
 room_after has_room (z ∷ zs) zero x y e kept (suc j) h = h
 room_after has_room (z ∷ zs) (suc i) x y e kept zero h = h
 room_after has_room (z ∷ zs) (suc i) x y e kept (suc j) h = room_after has_room zs i x y e kept j h
-

@@ -24,4 +24,3 @@ flag_both true false None = refl
 flag_both true false (Some f) = refl
 flag_both false true flag = refl
 flag_both false false flag = refl
-

@@ -167,4 +167,3 @@ sorted_with e es up =
     Ascends-append r fs (e ∷ bs) (Ascends-filter r (λ x. nat_lt x.thread e.thread) es up)
     (all_before e fs bs (Every-passes (λ x. nat_lt x.thread e.thread) es) (Every-passes (λ x. nat_lt e.thread x.thread) es))
     (Every-passes (λ x. nat_lt e.thread x.thread) es, Ascends-filter r (λ x. nat_lt e.thread x.thread) es up)
-

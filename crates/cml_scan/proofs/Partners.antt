@@ -73,4 +73,3 @@ scan_of-heads entries told up = heads_found (lit_by told) (lit_by-alone told) (o
 pub scan-heads : (w : PlainWorld)
     → heads w ≡ map place (filter (λ o. lit w o.base) (offers_of (pending w))) ++ map place (filter (has_partner (offers_of (pending w))) (offers_of (pending w)))
 scan-heads w = heads_found (lit w) (lit-alone w) (offers_of (pending w)) (offers_ascend (pending w) (pending_sorted w))
-

@@ -244,4 +244,3 @@ answered_fits p m n a h w e s = record {
   stack = s;
   short = subst IsShort (sym e) (answered_short (text_of p) a (machine_term p m) h.short (machine_awaits p w.0 m ∙ w.2));
 }
-

@@ -180,4 +180,3 @@ none_after input i f =
 
 pub none_at_all : (input : List ℕ) → NoFeedBelow input (length input) → HasNoFeed input
 none_at_all input none = All-from_get_or (λ b. b ≢ 10) input 0 none
-

@@ -21,4 +21,3 @@ module _ {S I : Type 0} (y : System S I) where
       let came = t.came (at - 1) o h ∙ ap (slice_get states) at_is in
       ap (λ l. option_and_then (λ s. run y s l) (slice_get states o.0)) (reverse-append items (o.1 ∷ []))
       ∙ (step_first (slice_get states o.0) o.1 (reverse items) ∙ (ap (λ p. option_and_then (λ u. run y u (reverse items)) p) came ∙ leads))
-
