@@ -185,7 +185,8 @@ stopped_ran asked saving p options begun stopped output errors mid store status 
 
 -- the script was run, with the numbers of its servers
 pub opened_ran : (explains : Bool) (s : PlainScript) (properties : List Property) (options : RunOptions) (servers : List ℕ) (asked : PlainAsked) (saving : PlainSaving)
-    (p : List (PlainItem ℕ)) (output errors : Passage) (store : Shelf) (status : ℕ) → first_unknown s (server_names options.end) ≡ None → servers ≡ server_numbers s (server_names options.end) → p ≡ s.program →
+    (p : List (PlainItem ℕ)) (output errors : Passage) (store : Shelf) (status : ℕ) →
+    first_unknown s (server_names options.end) ≡ None → servers ≡ server_numbers s (server_names options.end) → p ≡ s.program →
     asked ≡ record { explains = explains; strict = options.end.strict; servers = servers; properties = properties; stops = options.stop } → saving ≡ saving_of options →
     SomehowOutcome asked saving p options output errors store status → ScriptOutcome explains s properties options output errors store status
 opened_ran explains s properties options servers asked saving p output errors store status known numbered program same saves (inl ran) =

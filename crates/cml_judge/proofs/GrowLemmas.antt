@@ -1,8 +1,7 @@
 -- How the output of a run grows: by whole lines, and only by turns of threads.
-use Rattle.std.proofs.Common.{◌≡◌, ℕ, Bool, true, false, List, [], ◌∷◌, ◌++◌, length, take, drop, Option, Some, None, Ok, Err, refl, sym, ap, ◌∙◌, subst, inl, inr}
+use Rattle.std.proofs.Common.{◌≡◌, ℕ, Bool, true, false, List, [], ◌∷◌, ◌++◌, take, drop, Option, Some, None, Ok, Err, refl, sym, ap, ◌∙◌, subst, inl, inr}
 use Rattle.std.specs.Prelude.{codes, if◌then◌else◌, slice_get, option_map, option_and_then}
 use Rattle.std.proofs.lemmas.List.{append_assoc, append-nil, take-append-drop}
-use Rattle.cml_text.specs.Lines.{line}
 use Rattle.cml_value.specs.declared.number.Tid.{Tid}
 use Rattle.cml_scan.specs.Numbers.{spaced}
 use Rattle.cml_scan.specs.World.{PlainWorld}

@@ -1,4 +1,4 @@
-use Rattle.std.proofs.Common.{ap, refl, subst, take, Option, ℕ, ◌∙◌}
+use Rattle.std.proofs.Common.{ap, subst, take, Option, ℕ, ◌∙◌}
 use Rattle.cml_step.specs.Calls.{text_of}
 use Rattle.cml_judge.specs.Stops.{StopsAfter}
 use Rattle.cml_judge.proofs.stop.stopped_hub.Goals as goal
