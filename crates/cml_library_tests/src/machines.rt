@@ -6,29 +6,12 @@ ghost use Rattle.cml_step.specs.Answers as answers;
 
 use crate::making::{MEMORY, program_of};
 use cml_check::Prog;
-use cml_step::{Answer, Ask, Machine, slice};
+use cml_step::{Ask, Machine, slice};
 use cml_value::{FnRef, NackId, Tid, Value, ValueKind};
 use std::process::Abort;
 
 // Its first slices have 1 and 2 steps: it gives up its turn, and asks for a nack.
 const SCRIPT: &str = "(fn g (n) (return n)) (fn main () (yield) (sync (withnack g)))";
-
-// The nack is given to the thread in both ways.
-fn with_nack(rt: &(impl Abort + AllocGlobal), program: &Prog, end: Machine) -> Machine
-    requires fits { Fits program.now end }
-    requires awaits { top_await (machine_term program.now end) ≡ answers.nack }
-    ensures fits { Fits program.now result }
-    ensures awaits { top_await (machine_term program.now result) ≡ answers.nothing }
-{
-    let room = end.reserve_nack(rt.alloc(), NackId(0)).expect(rt, MEMORY);
-    let copy = end.copy(rt.alloc()).expect(rt, MEMORY);
-    let with_room = copy.answered_nack(room);
-    let answer = Answer::Nack(NackId(0));
-    let answered = end.answered(rt.alloc(), answer).expect(rt, MEMORY);
-    assert!(rt; with_room.same(&answered));
-    drop(with_room);
-    answered
-}
 
 // The thread once it is answered, if it has given up its turn or asks for a nack.
 fn go_on(
@@ -44,17 +27,19 @@ fn go_on(
     ensures awaits { IfSome result (λ m.
         top_await (machine_term program.now m) ≡ answers.nothing) }
 {
+    let mut machine = end;
     match ask {
-        Ask::Yield => {
-            let unit = Answer::Value(Value::new(ValueKind::Unit));
-            Some(end.answered(rt.alloc(), unit).expect(rt, MEMORY))
+        Ask::Yield => machine.take_value(Value::new(ValueKind::Unit)),
+        Ask::Nack => {
+            let room = machine.reserve_nack(rt.alloc(), NackId(0)).expect(rt, MEMORY);
+            machine.take_nack(room);
         }
-        Ask::Nack => Some(with_nack(rt, program, end)),
         _ => {
-            drop(end);
-            None
+            drop(machine);
+            return None;
         }
     }
+    Some(machine)
 }
 
 // The slice of the thread, of so many steps: where it ends, and what it asks.

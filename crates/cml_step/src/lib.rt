@@ -1,7 +1,6 @@
 //! The step machine of scripts: what a thread of a checked program does, step by step, up to the next thing that it asks of the world.
 #![tactic(auto)]
 
-mod answer;
 mod ask;
 mod asking;
 mod call;
@@ -28,7 +27,6 @@ mod still;
 mod sync;
 mod undo;
 
-pub use answer::Answer;
 pub use ask::Ask;
 pub use call::Call;
 pub use entries::Walk;

@@ -3,13 +3,12 @@
 ghost use Rattle.std.specs.Prelude.{◌≡◌, ℕ, List, [], ◌∷◌, ◌≤◌, true, IfOk, IfErr, OnOk, OnErr, ◌↔◌, IsTrue};
 ghost use Rattle.cml_check.specs.{Syntax.{PlainItem}, InOrder.{InOrder, arities}};
 ghost use Rattle.cml_step.specs.{Agrees.{answer_agrees, function_agrees}, Answers.{top_await, after_answer as plain_answered}};
-ghost use Rattle.cml_step.specs.{AnswerViews.{plain_answer, Awaits, IsNack}, AskViews.{plain_ask}, Asks.{a_value, a_nack, a_commit}, Calls.{text_of}};
+ghost use Rattle.cml_step.specs.{AnswerViews.{Awaits}, AskViews.{plain_ask}, Asks.{a_value, a_nack, a_commit}, Calls.{text_of}};
 ghost use Rattle.cml_step.specs.{Machines.{PlainMachine, machine_term, Fits}, Nacks.{nack_given, IsNackRoom}, Rans.{IsSlice}};
 ghost use Rattle.cml_step.specs.{Shared.{HoldsNoValue, left_of}, Slices.{sliced_from, max_steps, GoesIn}, Stacks.{StackFits, term_of}, Terms.{call_of}};
 ghost use Rattle.cml_step.specs.Undone.{IsNotedStack};
 ghost use Rattle.cml_step.specs.Answers as answers;
 
-use crate::answer::Answer;
 use crate::ask::Ask;
 use crate::call::fill;
 use crate::entries::{Frames, Stack, Walk, same_entries, under};
@@ -188,15 +187,7 @@ impl Machine {
         })
     }
 
-    // Makes this machine a copy of the other, in the lists that it has.
-    fn copy_from(&mut self, alloc: Global, other: &Machine) -> Result<(), AllocError>
-        ensures { IfOk result (λ _. self.new ≡ other.now) }
-    {
-        self.thread = other.thread;
-        self.stack.copy_from(alloc, &other.stack)
-    }
-
-    /// Drops the values of a machine that from now on is only the spare of others ([`run_here`](Machine::run_here)). It takes no memory.
+    /// Drops the values of a machine of which only the lists are used again ([`Undo`](crate::Undo)). It takes no memory.
     pub fn rest(&mut self)
         ensures values { HoldsNoValue self.new.stack }
         ensures thread { self.new.thread ≡ self.old.thread }
@@ -248,36 +239,6 @@ impl Machine {
         )
     }
 
-    /// Runs a slice of the thread where it stands, as [`run_here`](Machine::run_here) does. What the thread asks in the
-    /// end is written to `asked`, which must be `Nothing` before. Returns how many steps there were.
-    ///
-    /// # Errors
-    /// Out of memory; the machine is as it was, and nothing is asked.
-    pub fn run_asking(
-        &mut self,
-        alloc: Global,
-        program: &Prog,
-        spare: &mut Machine,
-        asked: &mut Ask,
-    ) -> Result<u32, AllocError>
-        requires fits { Fits program.now self.old }
-        requires awaits { top_await (machine_term program.now self.old) ≡ answers.nothing }
-        requires nothing { asked.old ≡ Ask.Nothing }
-        ensures meant { IfOk result (λ steps. IsSlice (record {
-          program = program.now;
-          start = self.old;
-          end = self.new;
-          ask = plain_ask asked.new;
-          steps = steps;
-        })) }
-        ensures spare { OnOk result (spare.new ≡ self.old) }
-        ensures err { OnErr result (self.new ≡ self.old) }
-        ensures err_ask { OnErr result (asked.new ≡ Ask.Nothing) }
-    {
-        spare.copy_from(alloc, self)?;
-        self.run_on(alloc, program, spare, 0, asked)
-    }
-
     // The rest of a slice of the machine that the spare is: so many steps went on before.
     fn run_on(
         &mut self,
@@ -315,9 +276,10 @@ impl Machine {
         }
     }
 
-    /// Runs a slice of the thread where it stands, as [`run_asking`](Machine::run_asking) does. Where the slice stays in the call on top
-    /// nothing is copied but what it changes there. The undo puts the machine back ([`Undo::put_back`](crate::Undo::put_back)); its lists
-    /// are used again.
+    /// Runs a slice of the thread where it stands: its steps up to the first that asks, ends or is at fault, and at most
+    /// [`MAX_STEPS`](crate::MAX_STEPS). What the thread asks in the end is written to `asked`, which must be `Nothing` before. Returns how
+    /// many steps there were. Where the slice stays in the call on top nothing is copied but what it changes there. The undo puts the
+    /// machine back ([`Undo::put_back`](crate::Undo::put_back)); its lists are used again.
     ///
     /// # Errors
     /// Out of memory; the machine is as it was, and nothing is asked.
@@ -371,36 +333,7 @@ impl Machine {
         undo_noted(&mut self.stack, journal);
     }
 
-    /// Runs a slice of the thread where it stands: its steps up to the first that asks, ends or is at fault, and at most
-    /// [`MAX_STEPS`](crate::MAX_STEPS). Returns what the thread asks in the end, and how many steps there were. The spare becomes a copy of
-    /// the machine as it was before. What the spare was does not matter; its lists are used again.
-    ///
-    /// # Errors
-    /// Out of memory; the machine is as it was.
-    pub fn run_here(
-        &mut self,
-        alloc: Global,
-        program: &Prog,
-        spare: &mut Machine,
-    ) -> Result<(Ask, u32), AllocError>
-        requires fits { Fits program.now self.old }
-        requires awaits { top_await (machine_term program.now self.old) ≡ answers.nothing }
-        ensures meant { IfOk result (λ r. IsSlice (record {
-          program = program.now;
-          start = self.old;
-          end = self.new;
-          ask = plain_ask r.0;
-          steps = r.1;
-        })) }
-        ensures spare { IfOk result (λ _. spare.new ≡ self.old) }
-        ensures err { OnErr result (self.new ≡ self.old) }
-    {
-        let mut asked = Ask::Nothing;
-        let steps = self.run_asking(alloc, program, spare, &mut asked)?;
-        Ok((asked, steps))
-    }
-
-    /// Room for the answer of this nack, so that [`answered_nack`](Machine::answered_nack) takes no memory.
+    /// Room for the answer of this nack, so that [`take_nack`](Machine::take_nack) takes no memory.
     ///
     /// # Errors
     /// Out of memory.
@@ -467,60 +400,5 @@ impl Machine {
         ensures thread { self.new.thread ≡ self.old.thread }
     {
         give_commit(&mut self.stack, value, wraps);
-    }
-
-    /// The thread once it is answered by the nack that there is room for. It takes no memory.
-    pub fn answered_nack(self, room: NackRoom) -> Machine
-        requires { IsNackRoom self room }
-        ensures machine { result ≡ nack_given room self }
-        ensures meant { (p : List (PlainItem ℕ)) → Fits p self → machine_term p result
-            ≡ plain_answered (text_of p) (a_nack room.nack.0) (machine_term p self) }
-        ensures fits { (p : List (PlainItem ℕ)) → Fits p self → Fits p result }
-        ensures awaits { (p : List (PlainItem ℕ)) → Fits p self →
-            top_await (machine_term p self) ≡ answers.nack
-            → top_await (machine_term p result) ≡ answers.nothing }
-        ensures thread { result.thread ≡ self.thread }
-    {
-        let mut machine = self;
-        machine.take_nack(room);
-        machine
-    }
-
-    /// The thread once it is answered. Only the answer to a withNack, whose function is called then, takes memory.
-    ///
-    /// # Errors
-    /// Out of memory; the machine comes back as it was.
-    pub fn answered(self, alloc: Global, answer: Answer) -> Result<Machine, AllocFailed<Machine>>
-        requires { Awaits self (plain_answer answer) }
-        ensures meant { IfOk result (λ m. (p : List (PlainItem ℕ)) → Fits p self →
-            machine_term p m
-            ≡ plain_answered (text_of p) (plain_answer answer) (machine_term p self)) }
-        ensures fits { IfOk result (λ m. (p : List (PlainItem ℕ)) → Fits p self →
-            answer_agrees (arities p) (plain_answer answer) ≡ true → Fits p m) }
-        ensures awaits { IfOk result (λ m. (p : List (PlainItem ℕ)) → Fits p self →
-            top_await (machine_term p self) ≡ answers.answer_for (plain_answer answer)
-            → top_await (machine_term p m) ≡ answers.nothing) }
-        ensures thread { IfOk result (λ m. m.thread ≡ self.thread) }
-        ensures err { IfErr result (λ back. back.value ≡ self) }
-        ensures memory { OnErr result (IsNack (plain_answer answer)) }
-    {
-        let mut machine = self;
-        match answer {
-            Answer::Value(value) => {
-                machine.take_value(value);
-                Ok(machine)
-            }
-            Answer::Commit(value, wraps) => {
-                machine.take_commit(value, wraps);
-                Ok(machine)
-            }
-            Answer::Nack(nack) => match machine.reserve_nack(alloc, nack) {
-                Ok(room) => {
-                    machine.take_nack(room);
-                    Ok(machine)
-                }
-                Err(_) => Err(AllocFailed { value: machine }),
-            },
-        }
     }
 }
