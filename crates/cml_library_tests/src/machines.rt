@@ -31,7 +31,9 @@ fn go_on(
     match ask {
         Ask::Yield => machine.take_value(Value::new(ValueKind::Unit)),
         Ask::Nack => {
-            let room = machine.reserve_nack(rt.alloc(), NackId(0)).expect(rt, MEMORY);
+            let room = machine
+                .reserve_nack(rt.alloc(), NackId(0))
+                .expect(rt, MEMORY);
             machine.take_nack(room);
         }
         _ => {
