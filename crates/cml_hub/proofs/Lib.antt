@@ -3,6 +3,7 @@ pub mod Queueing
 pub mod Waiting
 pub mod Homing
 pub mod Played
+pub mod Picking
 pub mod RowLemmas
 pub mod Agreement
 pub mod Soon

@@ -22,10 +22,12 @@ use Rattle.cml_hub.specs.Runs.{Run, opening, stands, advance, next_alarm, over}
 use Rattle.cml_hub.specs.Dones.{ThreadsAfter}
 use Rattle.cml_hub.specs.Courses.{PlainCourse, run_of}
 use Rattle.cml_hub.specs.Kept.{Kept, Continues, is_out_of}
-use Rattle.cml_hub.specs.Moves.{lines_up, AddsItem, Reported, CalledBack}
+use Rattle.cml_hub.specs.Moves.{lines_up, AddsItem, Reported, CalledBack, HandedOut, LeavesFirst, MovedOn}
 use Rattle.cml_hub.specs.Playing.{Rules, Played, picked, spent, taking, parties, ready_after, adds, moved_by}
 use Rattle.cml_hub.specs.Playing.{next_by, played, playing, called_back, GoesBy, GoesIfLeftBy, MovesBy, PlaysOut}
-use Rattle.cml_hub.specs.Playing.{PlaysOn, BeginsRun}
+use Rattle.cml_hub.specs.Playing.{PlaysOn, PlaysFurther, PlaysSome, PlaysUpTo, before_handing, BeginsRun}
+use Rattle.cml_step.specs.Machines.{PlainMachine}
+use Rattle.cml_hub.specs.declared.fault.Next.TheVariants as next
 use Rattle.cml_hub.proofs.Queueing.{left_first}
 
 -- who is ready after a turn, by what became of the thread and by the worlds
@@ -192,10 +194,10 @@ played_out p budget rules (suc n) (suc m) g h is le o =
 
 -- ---- the hub on its way
 
--- it has come so far, by no more items than it has used of the budget
-pub record Way {C : Type 0} (rules : Rules C) (old : Kept) (chooser : C) (new : Kept) (last : C) : Type 0 where
+-- it has come so far from there, by no more items than it has used of the budget
+pub record Way {C : Type 0} (rules : Rules C) (old : Kept) (from : Played C) (new : Kept) (last : C) : Type 0 where
   pub items : ℕ
-  pub plays : playing new last ≡ played (text_of old.course.program) old.budget rules items (called_back old chooser)
+  pub plays : playing new last ≡ played (text_of old.course.program) old.budget rules items from
   pub few : items ≤ new.course.used
   pub within : items ≤ old.budget
 
@@ -205,7 +207,10 @@ playing_reported a b c r =
     ap (λ (x : PlainCourse). record { items = x.items; run = run_of x; queue = b.queue; chooser = c }) r.course
     ∙ ap (λ (q : List Tid). record { items = a.course.items; run = run_of a.course; queue = q; chooser = c }) r.queue
 
-pub way_called : {C : Type 0} (rules : Rules C) (h a : Kept) (c : C) → CalledBack h a → Way rules h c a c
+pub way_self : {C : Type 0} (rules : Rules C) (h : Kept) (c : C) → Way rules h (playing h c) h c
+way_self rules h c = record { items = 0; plays = refl; few = omega arith; within = omega arith }
+
+pub way_called : {C : Type 0} (rules : Rules C) (h a : Kept) (c : C) → CalledBack h a → Way rules h (called_back h c) a c
 way_called rules h a c k = record {
   items = 0;
   plays = ap (λ (x : PlainCourse). record { items = x.items; run = run_of x; queue = a.queue; chooser = c }) k.course
@@ -214,47 +219,82 @@ way_called rules h a c k = record {
   within = omega arith;
 }
 
-pub way_reported : {C : Type 0} (rules : Rules C) (h a b : Kept) (c last : C) → Way rules h c a last → Reported a b → Way rules h c b last
-way_reported rules h a b c last w r = record {
+pub way_reported : {C : Type 0} (rules : Rules C) (h a b : Kept) (from : Played C) (last : C) → Way rules h from a last → Reported a b → Way rules h from b last
+way_reported rules h a b from last w r = record {
   items = w.items;
   plays = playing_reported a b last r ∙ w.plays;
   few = omega (arith, w.few, ap (λ (x : PlainCourse). x.used) r.course);
   within = w.within;
 }
 
+pub way_same : {C : Type 0} (rules : Rules C) (h a b : Kept) (from : Played C) (last : C) → Way rules h from a last → b ≡ a → Way rules h from b last
+way_same rules h a b from last w same = subst (λ (x : Kept). Way rules h from x last) (sym same) w
+
 -- one item more
-pub way_more : {C : Type 0} (rules : Rules C) (h a b : Kept) (c mid last : C) (item : Item) → Way rules h c a mid → Continues h a → over a.budget (run_of a.course) ≡ false
-    → a.course.used < a.budget → GoesBy rules a mid b last → AddsItem a item b → Way rules h c b last
-way_more rules h a b c mid last item w e o left goes m =
+pub way_more : {C : Type 0} (rules : Rules C) (h a b : Kept) (from : Played C) (mid last : C) (item : Item) → Way rules h from a mid → Continues h a → over a.budget (run_of a.course) ≡ false
+    → a.course.used < a.budget → GoesBy rules a mid b last → AddsItem a item b → Way rules h from b last
+way_more rules h a b from mid last item w e o left goes m =
     let budget : a.budget ≡ h.budget = e.budget in
     let going : over h.budget (run_of a.course) ≡ false = ap (λ n. over n (run_of a.course)) (sym budget) ∙ o in
     let next = subst (λ p. next_by (text_of p) rules (playing a mid) a.queue ≡ Some (playing b last)) e.program goes in
     record {
       items = w.items + 1;
-      plays = played_more (text_of h.course.program) h.budget rules w.items (called_back h c) (playing a mid) (playing b last) w.plays going next;
+      plays = played_more (text_of h.course.program) h.budget rules w.items from (playing a mid) (playing b last) w.plays going next;
       few = omega (arith, w.few, m.used);
       within = omega (arith, w.few, left, budget);
     }
 
-pub way_on : {C : Type 0} (rules : Rules C) (h a b : Kept) (c last : C) → Way rules h c a last → b ≡ a → PlaysOn rules h c b
+pub way_on : {C : Type 0} (rules : Rules C) (h a b : Kept) (c last : C) → Way rules h (called_back h c) a last → b ≡ a → PlaysOn rules h c b
 way_on rules h a b c last w same = record {
   items = w.items;
   last = last;
   plays = ap (λ (x : Kept). playing x last) same ∙ w.plays;
 }
 
-pub way_out : {C : Type 0} (rules : Rules C) (h a : Kept) (c last : C) → Way rules h c a last → Continues h a → over a.budget (run_of a.course) ≡ true
+pub way_out : {C : Type 0} (rules : Rules C) (h a : Kept) (c last : C) → Way rules h (called_back h c) a last → Continues h a → over a.budget (run_of a.course) ≡ true
     → PlaysOut rules h c a last
 way_out rules h a c last w e o =
     let done : over h.budget (run_of a.course) ≡ true = ap (λ n. over n (run_of a.course)) (sym e.budget) ∙ o in
     played_out (text_of h.course.program) h.budget rules w.items h.budget (called_back h c) (playing a last) w.plays w.within done
 
 -- the same, where nothing was left to do
-pub way_quiet : {C : Type 0} (rules : Rules C) (h a b : Kept) (c mid last : C) → Way rules h c a mid → Continues h a → over a.budget (run_of a.course) ≡ true
+pub way_quiet : {C : Type 0} (rules : Rules C) (h a b : Kept) (c mid last : C) → Way rules h (called_back h c) a mid → Continues h a → over a.budget (run_of a.course) ≡ true
     → b ≡ a → last ≡ mid → PlaysOut rules h c b last
 way_quiet rules h a b c mid last w e o same stays =
     let out : PlaysOut rules h c a mid = way_out rules h a c mid w e o in
     subst (λ (x : Kept). PlaysOut rules h c x last) (sym same) (subst (λ x. PlaysOut rules h c a x) (sym stays) out)
+
+-- ---- a part of a run
+
+pub way_to : {C : Type 0} (rules : Rules C) (h a : Kept) (c last : C) → Way rules h (playing h c) a last → PlaysFurther rules h c a last
+way_to rules h a c last w = record { items = w.items; plays = w.plays }
+
+pub way_some : {C : Type 0} (rules : Rules C) (h a : Kept) (c last : C) → Way rules h (playing h c) a last → PlaysSome rules h c a
+way_some rules h a c last w = record { last = last; plays = way_to rules h a c last w }
+
+-- nothing more was done, and the chooser was not asked
+pub way_stays : {C : Type 0} (rules : Rules C) (h a b : Kept) (c mid last : C) → Way rules h (playing h c) a mid → b ≡ a → last ≡ mid → PlaysFurther rules h c b last
+way_stays rules h a b c mid last w same stays =
+    subst (λ x. PlaysFurther rules h c b x) (sym stays) (way_to rules h b c mid (way_same rules h a b (playing h c) mid w same))
+
+-- the thread that was ready first is handed out
+handed_before : {C : Type 0} (a b : Kept) (m : PlainMachine) (c : C) → HandedOut a (Some m) b → LeavesFirst a.queue (Some m) b.queue
+    → before_handing (next.Job m) b c ≡ playing a c
+handed_before a b m c s first =
+    ap (λ (x : Kept). record { items = x.course.items; run = run_of x.course; queue = record { 0 = m.thread } ∷ b.queue; chooser = c }) s.3
+    ∙ ap (λ (q : List Tid). record { items = a.course.items; run = run_of a.course; queue = q; chooser = c }) (sym first)
+
+pub way_handed : {C : Type 0} (rules : Rules C) (h a b : Kept) (c last : C) (m : PlainMachine) → Way rules h (playing h c) a last → HandedOut a (Some m) b
+    → LeavesFirst a.queue (Some m) b.queue → PlaysUpTo rules h c (next.Job m) b last
+way_handed rules h a b c last m w s first = record { items = w.items; plays = handed_before a b m last s first ∙ w.plays }
+
+-- no thread was ready, and a row was taken or the time moved
+pub way_moved : {C : Type 0} (rules : Rules C) (h a b d : Kept) (from : Played C) (mid last : C) → Way rules h from a mid → Continues h a → over a.budget (run_of a.course) ≡ false
+    → a.course.used < a.budget → HandedOut a None b → LeavesFirst a.queue None b.queue → MovedOn b true d → MovesBy rules b mid true d last → Way rules h from d last
+way_moved rules h a b d from mid last w e o left n first m moves =
+    way_more rules h a d from mid last m.0 w e o left
+    (subst (λ (x : Kept). GoesBy rules x mid d last) n.1 (move_goes rules b d mid last (first ∙ ap (λ (x : Kept). slice_get x.queue 0) (sym n.1)) moves))
+    (subst (λ (x : Kept). AddsItem x m.0 d) n.1 m.3)
 
 -- ---- at the beginning
 

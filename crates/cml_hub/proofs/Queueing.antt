@@ -25,6 +25,13 @@ left_none t (x ∷ xs) h = left_step t x xs (omega (arith, h)) ∙ ap (λ ys. x 
 pub left_first : (x : Tid) (xs : List Tid) → left_by x.0 (x ∷ xs) ≡ xs
 left_first x xs = let same : nat_eq x.0 x.0 ≡ true = grind (arith, nat_tests) in rw same refl
 
+pub leaves_first : (x : Tid) (q left : List Tid) (t : ℕ) → Some x ≡ slice_get q 0 → t ≡ x.0 → left ≡ left_by x.0 q → q ≡ record { 0 = t } ∷ left
+leaves_first x [] left t first e l = cc
+leaves_first x (y ∷ q) left t first e l =
+    let is : x ≡ y = cc in
+    let rest : left ≡ q = l ∙ ap (λ (z : Tid). left_by z.0 (y ∷ q)) is ∙ left_first y q in
+    rw (e, is, rest) refl
+
 left_at : (t : ℕ) (q : List Tid) (i : ℕ) (y : Tid) → i < length q → y ≡ slice_index_or q i y → nat_eq y.0 t ≡ true → count_of t (take i q) ≡ 0 → remove q i ≡ left_by t q
 left_at t [] i y lt e s h = absurd (omega arith)
 left_at t (x ∷ xs) zero y lt e s h = let same : nat_eq x.0 t ≡ true = subst (λ (z : Tid). nat_eq z.0 t ≡ true) e s in rw same refl

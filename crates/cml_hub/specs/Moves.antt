@@ -75,6 +75,11 @@ HandedOut old (Some m) new =
     HasMachine old.course m.thread m × GoesOn old.course.program m × (is_out_of old.out m.thread ≡ false)
     × (new ≡ record old { out = slice_set old.out m.thread true; queue = left_by m.thread old.queue })
 
+-- the thread of the machine was ready first; or none was ready
+abbrev pub LeavesFirst : List Tid → Option PlainMachine → List Tid → Type 0
+LeavesFirst old None new = None ≡ slice_get old 0
+LeavesFirst old (Some m) new = old ≡ record { 0 = m.thread } ∷ new
+
 -- A row was taken, as an exchange where it is of two swaps, or the time moved; or no row can be taken, and nothing is left to do exactly where
 -- no thread runs.
 abbrev pub MovedOn : Kept → Bool → Kept → Type 0

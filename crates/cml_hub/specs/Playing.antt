@@ -1,5 +1,6 @@
 -- The run that a chooser makes.
-use Rattle.std.specs.Prelude.{ℕ, zero, suc, ◌≡◌, ◌==◌, ◌⊎◌, if◌then◌else◌, Bool, true, false, List, [], ◌∷◌, ◌++◌, length, Option, Some, None, option_map, option_and_then, unwrap_or, slice_get}
+use Rattle.std.specs.Prelude.{ℕ, zero, suc, ◌≡◌, ◌==◌, ◌⊎◌, if◌then◌else◌, Bool, true, false, List, [], ◌∷◌, ◌++◌, length}
+use Rattle.std.specs.Prelude.{Option, Some, None, IfSome, option_map, option_and_then, unwrap_or, slice_get}
 use Rattle.cml_value.specs.declared.number.Tid.{Tid}
 use Rattle.cml_scan.specs.World.{PlainWorld}
 use Rattle.cml_scan.specs.Scan.{scan, heads_of, partners_of}
@@ -12,6 +13,8 @@ use Rattle.cml_schedule.specs.declared.item.Item.TheVariants.{Turn, Meet as Comm
 use Rattle.cml_check.specs.Syntax.{PlainItem}
 use Rattle.cml_step.specs.Calls.{text_of}
 use Rattle.cml_step.specs.Terms.{Program}
+use Rattle.cml_hub.specs.declared.fault.Next.{Next}
+use Rattle.cml_hub.specs.declared.fault.Next.TheVariants as next
 use Rattle.cml_hub.specs.ReadyQueue.{those_out}
 use Rattle.cml_hub.specs.Runs.{Run, opening, stands, advance, next_alarm, over}
 use Rattle.cml_hub.specs.Courses.{run_of}
@@ -129,3 +132,59 @@ abbrev pub BeginsRun : {C : Type 0} → Kept → C → Type 0
 BeginsRun h chooser =
     (p : List (PlainItem ℕ)) (budget : ℕ) (watch : Option ℕ) → IsAtStart p budget watch h → stands (text_of h.course.program) h.course.items ≡ Some (run_of h.course)
     → called_back h chooser ≡ begun_by (text_of p) chooser
+
+-- ---- a part of a run
+
+-- It has gone on by items that the chooser makes, and by none once the run was over.
+pub record PlaysFrom {C : Type 0} (p : Program) (budget : ℕ) (rules : Rules C) (from to : Played C) : Type 0 where
+  pub items : ℕ
+  pub plays : to ≡ played p budget rules items from
+
+-- The hub has gone on so.
+abbrev pub PlaysFurther : {C : Type 0} → Rules C → Kept → C → Kept → C → Type 0
+PlaysFurther rules old chooser new last = PlaysFrom (text_of old.course.program) old.budget rules (playing old chooser) (playing new last)
+
+-- The same; the last picks of the chooser may have been for an item that was not made.
+pub record PlaysSome {C : Type 0} (rules : Rules C) (old : Kept) (chooser : C) (new : Kept) : Type 0 where
+  pub last : C
+  pub plays : PlaysFurther rules old chooser new last
+
+-- where the hub stood with its chooser before this was handed out: the thread of a job was ready first
+abbrev pub before_handing : {C : Type 0} → Next → Kept → C → Played C
+before_handing (next.Job m) h chooser = record { items = h.course.items; run = run_of h.course; queue = record { 0 = m.thread } ∷ h.queue; chooser = chooser }
+before_handing _ h chooser = playing h chooser
+
+-- The hub has gone on so, and has then handed this out.
+abbrev pub PlaysUpTo : {C : Type 0} → Rules C → Kept → C → Next → Kept → C → Type 0
+PlaysUpTo rules old chooser next new last = PlaysFrom (text_of old.course.program) old.budget rules (playing old chooser) (before_handing next new last)
+
+-- ---- the rows of a run
+
+-- the row that the item takes, if it takes one
+abbrev pub row_taken : Item → Option Meet
+row_taken (Commit row) = Some row
+row_taken (Exchange row) = Some row
+row_taken _ = None
+
+-- what the chooser is after these items: it was asked for each row that they take, and for nothing else
+abbrev pub asked : {C : Type 0} → Rules C → C → List Item → C
+asked rules chooser [] = chooser
+asked rules chooser (item ∷ more) = asked rules (spent rules chooser (row_taken item)) more
+
+-- The second list was added after the first. Each row that it takes is the one that the chooser picked where it was taken.
+abbrev pub EachPicked : {C : Type 0} → Program → Rules C → C → List Item → List Item → Type 0
+EachPicked p rules chooser items [] = Unit {0}
+EachPicked p rules chooser items (item ∷ more) =
+    IfSome (stands p items) (λ r. IfSome (row_taken item) (λ row. picked rules chooser (scan r.world) ≡ Some row))
+    × EachPicked p rules (spent rules chooser (row_taken item)) (items ++ item ∷ []) more
+
+-- Each row that was taken on the way is the one that the chooser picked there.
+pub record Picks {C : Type 0} (p : Program) (rules : Rules C) (from to : Played C) : Type 0 where
+  pub more : List Item
+  pub items : to.items ≡ from.items ++ more
+  pub rows : EachPicked p rules from.chooser from.items more
+  pub last : to.chooser ≡ asked rules from.chooser more
+
+-- What a chooser makes of a run from where a schedule has led takes the rows that it picks.
+abbrev pub PlaysPick : {C : Type 0} → Rules C → Program → ℕ → Played C → Played C → Type 0
+PlaysPick rules p budget from to = stands p from.items ≡ Some from.run → PlaysFrom p budget rules from to → Picks p rules from to

@@ -9,8 +9,8 @@ ghost use Rattle.cml_schedule.specs.{Written.{schedule_text}, Reading.{ScheduleR
 ghost use Rattle.cml_step.specs.Calls.{text_of};
 ghost use Rattle.cml_hub.specs.{Courses.{run_of, TakesRow, MachineStands, IsOurs}, Deeds.{origins, fault_count}, Reports.{AreReports, IsDueReport}};
 ghost use Rattle.cml_hub.specs.Kept.{IsBudget, IsWatch, IsAtStart, Continues, Extends, HandsOut, is_ended, NoneDue, NoneOut, AllOut, OnlyRunningOut, NoneOutOrSame, TakesSlice, IsFar, IsOver, IsFollowed, Replays, FitsSize};
-ghost use Rattle.cml_hub.specs.{ReadyQueue.{left_by}, Playing.{parties, ready_after, MovesBy, GoesIfLeftBy, PlaysOut, PlaysSoFar}};
-ghost use Rattle.cml_hub.specs.Moves.{IsNext, lines_up, marks_after, PartiesAway, marks_met, AddsItem, TakesBack, Reported, HandedOut, MovedOn, CalledBack, Happens, GoesIfLeft, with_report};
+ghost use Rattle.cml_hub.specs.{ReadyQueue.{left_by}, Playing.{parties, ready_after, MovesBy, GoesIfLeftBy, PlaysOut, PlaysSoFar, PlaysFurther, PlaysSome, PlaysUpTo}};
+ghost use Rattle.cml_hub.specs.Moves.{IsNext, lines_up, marks_after, PartiesAway, marks_met, AddsItem, TakesBack, Reported, HandedOut, LeavesFirst, MovedOn, CalledBack, Happens, GoesIfLeft, with_report};
 ghost use Rattle.cml_hub.specs.Runs as spec;
 
 use crate::choose::Chooser;
@@ -350,6 +350,7 @@ impl Hub {
     // The machine of the thread that is ready and comes next.
     fn hand_out(&mut self, alloc: Global) -> Result<Option<Machine>, AllocError>
         ensures ok { IfOk result (λ job. HandedOut self.old job self.new) }
+        ensures first { IfOk result (λ job. LeavesFirst self.old.queue job self.new.queue) }
         ensures err { OnErr result (self.new ≡ self.old) }
     {
         let Some(thread) = self.marks.front() else {
@@ -445,6 +446,8 @@ impl Hub {
         ensures more { Extends self.old self.new }
         ensures next { IfOk result (λ next. HandsOut self.old next self.new) }
         ensures ended { IfOk result (λ next. is_ended next ≡ spec.over self.new.budget (run_of self.new.course)) }
+        ensures plays { IfOk result (λ next. PlaysUpTo (record { picks = C.picks; next = C.next }) self.old chooser.old next self.new chooser.new) }
+        ensures so_far { OnErr result (PlaysSome (record { picks = C.picks; next = C.next }) self.old chooser.old self.new) }
         ensures due { OnOk result (NoneDue self.new) }
         ensures err { OnErr result (self.new.out ≡ self.old.out) }
     {
@@ -587,6 +590,8 @@ impl Hub {
         ensures more { Continues self.old self.new }
         ensures none_out { NoneOut self.new }
         ensures far { OnOk result (IsFar self.old steps self.new) }
+        ensures plays { OnOk result (PlaysFurther (record { picks = C.picks; next = C.next }) self.old chooser.old self.new chooser.new) }
+        ensures so_far { OnErr result (PlaysSome (record { picks = C.picks; next = C.next }) self.old chooser.old self.new) }
     {
         let begun = self.course.used();
         self.report(alloc)?;

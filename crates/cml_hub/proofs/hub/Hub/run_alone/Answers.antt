@@ -1,7 +1,7 @@
 use Rattle.std.proofs.Common.{inl, inr, sym, subst}
 use Rattle.cml_hub.specs.Courses.{run_of}
 use Rattle.cml_hub.specs.Moves.{GoesIfLeft}
-use Rattle.cml_hub.specs.Playing.{GoesIfLeftBy}
+use Rattle.cml_hub.specs.Playing.{GoesIfLeftBy, called_back}
 use Rattle.cml_hub.proofs.Going.{alone_continues, continues_self, continues_called, continues_more}
 use Rattle.cml_hub.proofs.Going.{continues_reported, still_continues, none_out_reported, none_out_same, below}
 use Rattle.cml_hub.proofs.Going.{over_not, over_spent, over_quiet, quiet_over}
@@ -27,7 +27,7 @@ turns-init g c =
       more = continues_more h a b (continues_called h a k) (continues_reported a b r);
       none_out = none_out_reported a b k.none_out r;
       due = r.none_due;
-      way = way_reported (record { picks = g.C.Chooser.picks; next = g.C.Chooser.next }) h a b c.args.chooser.now
+      way = way_reported (record { picks = g.C.Chooser.picks; next = g.C.Chooser.next }) h a b (called_back h c.args.chooser.now)
           c.args.chooser.now (way_called (record { picks = g.C.Chooser.picks; next = g.C.Chooser.next }) h a
           c.args.chooser.now k) r;
     }
@@ -46,8 +46,8 @@ turns-preserved g c =
       more = continues_more h b d (alone_continues h a b c.turns.invariant.more (record { leads = c.turns-test.ensures.leads; going = going }) k) (continues_reported b d r);
       none_out = none_out_reported b d k.none_out r;
       due = r.none_due;
-      way = way_reported (record { picks = g.C.Chooser.picks; next = g.C.Chooser.next }) h b d c.args.chooser.now c.go_alone.new.chooser
-          (way_more (record { picks = g.C.Chooser.picks; next = g.C.Chooser.next }) h a b c.args.chooser.now c.turns.chooser c.go_alone.new.chooser k.item c.turns.invariant.way c.turns.invariant.more
+      way = way_reported (record { picks = g.C.Chooser.picks; next = g.C.Chooser.next }) h b d (called_back h c.args.chooser.now) c.go_alone.new.chooser
+          (way_more (record { picks = g.C.Chooser.picks; next = g.C.Chooser.next }) h a b (called_back h c.args.chooser.now) c.turns.chooser c.go_alone.new.chooser k.item c.turns.invariant.way c.turns.invariant.more
           going (below a.budget (run_of a.course) going) (subst (λ o. GoesIfLeftBy (record {
             picks = g.C.Chooser.picks;
             next = g.C.Chooser.next;
@@ -146,7 +146,7 @@ returns-in_err-report-2-clause-so_far g c =
     let went = subst (λ o. GoesIfLeft a o b) c.if-not-branch.false c.in_ok-go_alone.ensures.ok in
     let k = went.1 in
     let going = over_not a.budget (run_of a.course) went.0 (sym c.turns-test.ensures.spent) in
-    let way = way_more (record { picks = g.C.Chooser.picks; next = g.C.Chooser.next }) h a b c.args.chooser.now
+    let way = way_more (record { picks = g.C.Chooser.picks; next = g.C.Chooser.next }) h a b (called_back h c.args.chooser.now)
     c.turns.chooser c.go_alone.new.chooser k.item c.turns.invariant.way c.turns.invariant.more
     going (below a.budget (run_of a.course) going) (subst (λ o. GoesIfLeftBy (record {
       picks = g.C.Chooser.picks;
