@@ -1,6 +1,7 @@
--- A thread that waits for another one can't go on.
-use Rattle.std.proofs.Common.{◌≡◌, ℕ, zero, suc, Bool, true, false, List, [], ◌∷◌, inl, inr, refl, sym, ap, subst, ◌∙◌}
-use Rattle.std.specs.Prelude.{if◌then◌else◌, Option, Some, None, slice_get}
+-- A thread that waits for another one can't go on; and a ring that is told is one of threads that wait.
+use Rattle.std.proofs.Common.{◌≡◌, ℕ, zero, suc, Bool, true, false, List, [], ◌∷◌, ◌++◌, inl, inr, refl, sym, ap, subst, ◌∙◌, arith}
+use Rattle.std.specs.Prelude.{if◌then◌else◌, Option, Some, None, slice_get, All}
+use Rattle.std.proofs.lemmas.List.Elements.{All-cons}
 use Rattle.cml_value.specs.Value.{PlainBase, always, send, recv, swap, iget, mtake, mget, mswap, mail_recv, port_recv, join, at_tick, after_ticks, nack}
 use Rattle.cml_value.specs.Group.{PlainGroup, bases}
 use Rattle.cml_value.specs.declared.number.Tid.{Tid}
@@ -9,7 +10,10 @@ use Rattle.cml_scan.specs.Light.{is_full, has_ended, lit}
 use Rattle.cml_scan.specs.Enabled.{leaf_of, WaitsFor, IsEnabled}
 use Rattle.cml_scan.specs.declared.meet.Meet.{Meet}
 use Rattle.cml_scan.specs.declared.meet.Meet.TheVariants.{Single, Pair}
-use Rattle.cml_facts.specs.Rings.{blocked_by, blocked_only, next_thread, next_threads, next_of, IsParty}
+use Rattle.cml_hub.specs.Runs.{terminal}
+use Rattle.cml_hub.specs.Courses.{IsPending}
+use Rattle.cml_facts.specs.Rings.{blocked_by, blocked_only, next_thread, next_threads, next_of, ring_among, told_ring, EachWaits, IsRing, IsLastRing, IsParty}
+use Rattle.cml_facts.proofs.RingLaws.{is_ring}
 
 -- the thread waits for this base event alone, which another thread blocks
 pub record WaitsAlone (w : PlainWorld) (taker : ℕ → Option ℕ) (thread : Option PlainThread) (u : ℕ) : Type 0 where
@@ -90,3 +94,36 @@ no_party w taker t u (Pair head i other j) alone (inr swapped) (inr same) =
 
 pub cant_go_on : (w : PlainWorld) (taker : ℕ → Option ℕ) (t u : ℕ) (row : Meet) → next_of (next_threads w taker w.threads) t ≡ Some u → IsEnabled w row → IsParty t row → ⊥
 cant_go_on w taker t u row e enabled same = no_party w taker t u row (waits_alone w taker w.threads t u e) enabled same
+
+-- who waits for another one is pending
+next_pends : (w : PlainWorld) (taker : ℕ → Option ℕ) (t u : ℕ) → next_of (next_threads w taker w.threads) t ≡ Some u → IsPending w t
+next_pends w taker t u e = let alone = waits_alone w taker w.threads t u e in (alone.group, alone.waits)
+
+-- the first of a ring waits
+first_pends : (w : PlainWorld) (taker : ℕ → Option ℕ) (t end : ℕ) (others : List ℕ) → EachWaits (next_threads w taker w.threads) (t ∷ (others ++ end ∷ [])) → IsPending w t
+first_pends w taker t end [] h = next_pends w taker t end h.0
+first_pends w taker t end (u ∷ others) h = next_pends w taker t u h.0
+
+-- each of these waits, if the last one does
+each_pends : (w : PlainWorld) (taker : ℕ → Option ℕ) (t end : ℕ) (others : List ℕ) → EachWaits (next_threads w taker w.threads) (t ∷ (others ++ end ∷ [])) → IsPending w end
+    → All (IsPending w) (t ∷ (others ++ end ∷ []))
+each_pends w taker t end [] h last = All-cons (IsPending w) t (end ∷ []) (first_pends w taker t end [] h) (All-cons (IsPending w) end [] last (λ k d lt. absurd (omega arith)))
+each_pends w taker t end (u ∷ others) h last =
+    All-cons (IsPending w) t (u ∷ (others ++ end ∷ [])) (first_pends w taker t end (u ∷ others) h) (each_pends w taker u end others h.1 last)
+
+ring_pends : (w : PlainWorld) (taker : ℕ → Option ℕ) (ring : List ℕ) → IsRing (next_threads w taker w.threads) ring → All (IsPending w) ring
+ring_pends w taker ring is =
+    let round = subst (EachWaits (next_threads w taker w.threads)) is.goes_round is.each_waits in
+    subst (All (IsPending w)) (sym is.goes_round) (each_pends w taker is.first is.first is.others round (first_pends w taker is.first is.first is.others round))
+
+last_by : (w : PlainWorld) (taker : ℕ → Option ℕ) (ring : List ℕ) (b : Bool) → terminal w ≡ b → (if b then ring_among (next_threads w taker w.threads) else None) ≡ Some ring → IsLastRing w taker ring
+last_by w taker ring true is e =
+    let round = is_ring (next_threads w taker w.threads) ring e in
+    record { end = is; wait = ring_pends w taker ring round; is_ring = round }
+last_by w taker ring false is e = absurd (none_is ring e)
+  where
+    none_is : (ring : List ℕ) → None ≡ Some ring → ⊥
+    none_is ring e = cc
+
+pub last_ring : (w : PlainWorld) (taker : ℕ → Option ℕ) (ring : List ℕ) → told_ring w taker ≡ Some ring → IsLastRing w taker ring
+last_ring w taker ring e = last_by w taker ring (terminal w) refl e

@@ -8,6 +8,7 @@ use Rattle.cml_value.specs.Value.{PlainFunction, PlainBase, always, send, recv, 
 use Rattle.cml_value.specs.Group.{bases, leaf_count}
 use Rattle.cml_scan.specs.World.{PlainThread, running, pending_on, ended, PlainWorld}
 use Rattle.cml_scan.specs.Light.{is_full}
+use Rattle.cml_hub.specs.Runs.{terminal}
 use Rattle.cml_hub.specs.Courses.{PlainCourse}
 use Rattle.cml_phrase.specs.declared.place.Place.{Place}
 use Rattle.cml_facts.specs.declared.ending.left.Left.{Left}
@@ -15,7 +16,7 @@ use Rattle.cml_facts.specs.declared.ending.left.Stands.TheVariants.{Waits}
 use Rattle.cml_facts.specs.declared.ending.standing.Spot.{Spot}
 use Rattle.cml_phrase.specs.Events.{event_limit}
 use Rattle.cml_facts.specs.Waits.{thread_behind, who_is, object_state, awaited_event, is_on_mvar, waits_on_mvar}
-use Rattle.cml_facts.specs.Rings.{blocked_by, blocked_only, next_thread, next_threads}
+use Rattle.cml_facts.specs.Rings.{blocked_by, blocked_only, next_thread, next_threads, ring_among, told_ring}
 use Rattle.cml_facts.specs.Lefts.{stands_of, left_with, left_thread, all_left}
 use Rattle.cml_facts.specs.Ends.{scene_of, AreLeft, taker_of}
 use Rattle.cml_facts.proofs.OrLemmas.{or_false}
@@ -112,6 +113,10 @@ same_nexts w f g [] h = refl
 same_nexts w f g (t ∷ ts) h =
     ap (λ n. n ∷ next_threads w f ts) (same_next w f g t (same_first f g (waits_on_mvar t) (list_any waits_on_mvar ts) h))
     ∙ ap (λ ns. next_thread w g t ∷ ns) (same_nexts w f g ts (same_rest f g (waits_on_mvar t) (list_any waits_on_mvar ts) h))
+
+-- and so is the ring that is told
+pub same_told : (w : PlainWorld) (f g : ℕ → Option ℕ) → SameWhere f g (list_any waits_on_mvar w.threads) → told_ring w f ≡ told_ring w g
+same_told w f g h = ap (λ nexts. if terminal w then ring_among nexts else None) (same_nexts w f g w.threads h)
 
 -- those that are left are the same, whoever of the two took
 pub are_left_by : (places : List (List Place)) (c : PlainCourse) (f : ℕ → Option ℕ) (left : List Left)

@@ -12,7 +12,7 @@ use Rattle.cml_facts.specs.declared.ending.ending.Ending.{Ending}
 use Rattle.cml_facts.specs.declared.ending.left.Left.{Left}
 use Rattle.cml_facts.specs.declared.ending.standing.Spot.{Spot}
 use Rattle.cml_facts.specs.Takes.{takes_of, last_taker}
-use Rattle.cml_facts.specs.Rings.{next_threads, ring_among}
+use Rattle.cml_facts.specs.Rings.{told_ring}
 use Rattle.cml_facts.specs.Standings.{AreSpots}
 use Rattle.cml_facts.specs.Lefts.{Scene, turn_counts, all_left}
 
@@ -51,5 +51,5 @@ pub record IsEnding (places : List (List Place)) (h : Kept) (e : Ending) : Type 
   pub waits : e.waits ≡ length (pending h.course.world)
   pub runs : e.runs ≡ run_count h.course.world
   pub left : AreLeft places h.course (taker_of h.course) e.left.items
-  pub ring : option_map (λ ring. ring.items) e.ring ≡ ring_among (next_threads h.course.world (taker_of h.course) h.course.world.threads)
+  pub ring : option_map (λ ring. ring.items) e.ring ≡ told_ring h.course.world (taker_of h.course)
   pub faults : e.faults ≡ fault_count (text_of h.course.program) h.course.items

@@ -1,5 +1,5 @@
 -- Threads that wait for one another in a ring.
-use Rattle.std.specs.Prelude.{◌≡◌, ◌≢◌, ◌⊎◌, ℕ, zero, suc, ◌==◌, if◌then◌else◌, List, [], ◌∷◌, ◌++◌, map, length, Option, Some, None, option_map, option_and_then, slice_get, slice_index_or, AllPairs}
+use Rattle.std.specs.Prelude.{◌≡◌, ◌≢◌, ◌⊎◌, ℕ, zero, suc, true, ◌==◌, if◌then◌else◌, List, [], ◌∷◌, ◌++◌, map, length, Option, Some, None, option_map, option_and_then, slice_get, slice_index_or, All, AllPairs}
 use Rattle.std.specs.Option.{option_or}
 use Rattle.cml_value.specs.Value.{PlainBase, mtake, mget, mswap, join}
 use Rattle.cml_value.specs.Group.{bases}
@@ -8,6 +8,8 @@ use Rattle.cml_scan.specs.Light.{is_full, has_ended}
 use Rattle.cml_scan.specs.declared.meet.Meet.{Meet}
 use Rattle.cml_scan.specs.declared.meet.Meet.TheVariants.{Single, Pair}
 use Rattle.cml_book.specs.Threads.{flat_of}
+use Rattle.cml_hub.specs.Runs.{terminal}
+use Rattle.cml_hub.specs.Courses.{IsPending}
 
 -- For which thread a base event waits that can't be taken now: for the one that took last from its M-variable, which is empty, or for the one
 -- whose end it waits for, which has not ended.
@@ -54,6 +56,10 @@ first_ring nexts t (suc n) = option_or (ring_from nexts t) (first_ring nexts (su
 abbrev pub ring_among : List (Option ℕ) → Option (List ℕ)
 ring_among nexts = first_ring nexts 0 (length nexts)
 
+-- the ring that is told of a world: the first, where nothing is left to do
+abbrev pub told_ring : PlainWorld → (ℕ → Option ℕ) → Option (List ℕ)
+told_ring w taker = if terminal w then ring_among (next_threads w taker w.threads) else None
+
 -- each of these threads waits for the one behind it
 abbrev pub EachWaits : List (Option ℕ) → List ℕ → Type 0
 EachWaits nexts [] = Unit {0}
@@ -67,6 +73,12 @@ pub record IsRing (nexts : List (Option ℕ)) (ring : List ℕ) : Type 0 where
   pub goes_round : ring ≡ first ∷ (others ++ first ∷ [])
   pub once : AllPairs (λ t u. t ≢ u) (others ++ first ∷ [])
   pub each_waits : EachWaits nexts ring
+
+-- A ring of threads that never go on: nothing is left to do, each of them waits, and it is a ring.
+pub record IsLastRing (w : PlainWorld) (taker : ℕ → Option ℕ) (ring : List ℕ) : Type 0 where
+  pub end : terminal w ≡ true
+  pub wait : All (IsPending w) ring
+  pub is_ring : IsRing (next_threads w taker w.threads) ring
 
 -- the thread is a party to the row
 abbrev pub IsParty : ℕ → Meet → Type 0

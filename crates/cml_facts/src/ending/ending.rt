@@ -1,8 +1,10 @@
 //! How a run ended.
 
-ghost use Rattle.std.specs.Prelude.{◌≡◌, ◌-◌, ◌≤◌, if◌then◌else◌, IfOk, length, map, slice_get};
+ghost use Rattle.std.specs.Prelude.{◌≡◌, ◌-◌, ◌≤◌, if◌then◌else◌, IfOk, option_map, length, map, slice_get};
+ghost use Rattle.cml_hub.specs.Runs.{terminal};
 ghost use Rattle.cml_facts.specs.{Ends.{IsEnding, AreLeft}, Takes.{taker_in}};
 ghost use Rattle.cml_facts.specs.Ends as spec;
+ghost use Rattle.cml_facts.specs.Rings as rings;
 
 use crate::ending::left::{Left, Stage};
 use crate::ending::next::next_threads;
@@ -17,8 +19,8 @@ use cml_value::Tid;
 use std::alloc::{AllocError, Global};
 
 /// How a run ended: how; its budget; of how many items its schedule is, and the last of them; how many threads wait, and how many run; each
-/// of these; the ring in which threads wait for one another, if they do: from its least thread on, and back to that; and how many threads
-/// ended at a fault.
+/// of these; where nothing is left to do, the ring in which threads wait for one another, if they do: from its least thread on, and back to
+/// that; and how many threads ended at a fault.
 #[derive(Drop)]
 pub struct Ending {
     pub end: End,
@@ -75,6 +77,27 @@ fn left_threads(
     Ok(left)
 }
 
+// Whether nothing is left to do.
+fn is_quiet(hub: &Hub) -> bool
+    ensures { result ≡ terminal hub.now.course.world }
+{
+    match hub.end() {
+        End::Quiet => true,
+        End::Budget | End::Partial => false,
+    }
+}
+
+// The ring that is told.
+fn told_ring(alloc: Global, hub: &Hub, takers: &Takers) -> Result<Option<Vec<u32>>, AllocError>
+    ensures { IfOk result (λ ring. option_map (λ r. r.items) ring ≡ rings.told_ring hub.now.course.world (taker_in takers.now)) }
+{
+    if !is_quiet(hub) {
+        return Ok(None);
+    }
+    let nexts = next_threads(alloc, hub, takers)?;
+    ring_among(alloc, nexts.as_slice())
+}
+
 // The last of these items.
 fn last_of(items: &[Item]) -> Option<Item>
     ensures { result ≡ slice_get items.now (length items.now - 1) }
@@ -94,8 +117,7 @@ pub fn ending_of(alloc: Global, hub: &Hub, places: &[Vec<Place>]) -> Result<Endi
 {
     let takers = takers_of(alloc, hub)?;
     let left = left_threads(alloc, hub, &takers, places)?;
-    let nexts = next_threads(alloc, hub, &takers)?;
-    let ring = ring_among(alloc, nexts.as_slice())?;
+    let ring = told_ring(alloc, hub, &takers)?;
     let items = hub.schedule();
     Ok(Ending {
         end: hub.end(),

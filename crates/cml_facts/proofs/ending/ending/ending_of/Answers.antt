@@ -1,9 +1,8 @@
 use Rattle.std.proofs.Common.{◌∙◌, ◌-◌, ap, map, length}
 use Rattle.std.specs.Prelude.{slice_get}
 use Rattle.cml_facts.specs.Takes.{taker_in}
-use Rattle.cml_facts.specs.Rings.{ring_among}
 use Rattle.cml_facts.specs.Ends.{taker_of}
-use Rattle.cml_facts.proofs.SameLemmas.{are_left_by, same_nexts}
+use Rattle.cml_facts.proofs.SameLemmas.{are_left_by, same_told}
 use Rattle.cml_facts.proofs.ending.ending.ending_of.Goals as goal
 
 pub returns : goal.returns
@@ -18,7 +17,6 @@ returns c =
       waits = c.pending.ensures;
       runs = c.run_count.ensures;
       left = are_left_by (map (λ own. own.items) c.args.places.now) h (taker_in c.in_ok-takers.takers) _ same c.in_ok-left.ensures;
-      ring = c.in_ok-ring.ensures
-          ∙ ap ring_among (c.as_slice.ensures.value ∙ (c.in_ok-nexts.ensures ∙ same_nexts h.world (taker_in c.in_ok-takers.takers) (taker_of h) h.world.threads same));
+      ring = c.in_ok-ring.ensures ∙ same_told h.world (taker_in c.in_ok-takers.takers) (taker_of h) same;
       faults = c.faults.ensures;
     }
