@@ -178,7 +178,13 @@ fn asked_words(alloc: Global, hub: &Hub, asked: &Asked<'_>) -> Result<Vec<u8>, A
     ensures { IfOk result (λ words. MaySay (plain_asked asked.now).explains words.items) }
 {
     match &asked.subject {
-        Some(subject) => kept_words(alloc, hub, asked.explains, subject),
+        Some(subject) => kept_words(
+            alloc,
+            hub,
+            asked.explains,
+            subject,
+            asked.servers.as_slice(),
+        ),
         None => Ok(Vec::new(alloc)),
     }
 }
@@ -189,25 +195,32 @@ fn kept_words(
     hub: &Hub,
     explains: bool,
     subject: &Subject<'_>,
+    servers: &[u32],
 ) -> Result<Vec<u8>, AllocError>
     ensures { IfOk result (λ words. MaySay explains words.items) }
 {
     if explains {
-        end_words(alloc, hub, subject)
+        end_words(alloc, hub, subject, servers)
     } else {
         Ok(Vec::new(alloc))
     }
 }
 
-/// What explains the end of the run of this hub: which threads are left and for what they wait, and where and why threads ended at faults.
+/// What explains the end of the run of this hub: which threads are left and for what they wait, which of them are servers, and where and why
+/// threads ended at faults.
 ///
 /// # Errors
 /// Out of memory.
 #[inline(never)]
-pub fn end_words(alloc: Global, hub: &Hub, subject: &Subject<'_>) -> Result<Vec<u8>, AllocError> {
+pub fn end_words(
+    alloc: Global,
+    hub: &Hub,
+    subject: &Subject<'_>,
+    servers: &[u32],
+) -> Result<Vec<u8>, AllocError> {
     let text = subject.text.as_slice();
     let forms = subject.forms.as_slice();
-    let mut words = explain_end(alloc, subject.name, text, forms, hub)?;
+    let mut words = explain_end(alloc, subject.name, text, forms, hub, servers)?;
     push_faults(alloc, &mut words, hub, subject)?;
     Ok(words)
 }

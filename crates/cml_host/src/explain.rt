@@ -195,7 +195,7 @@ fn explain_items<O: Write>(
 fn told_end(alloc: Global, hub: &Hub, subject: &Subject<'_>) -> Result<Reply, Refusal>
     ensures { EndReplied (plain_reply [] result) }
 {
-    let words = end_words(alloc, hub, subject)?;
+    let words = end_words(alloc, hub, subject, &[])?;
     Ok(text_reply(alloc, words))
 }
 

@@ -2,6 +2,7 @@
 
 use crate::ending::ending::{Ending, ending_of};
 use crate::ending::left::{Left, Stands};
+use crate::ending::stuck::is_stuck;
 use crate::ending::words::{push_awaited, push_many, push_named, push_number};
 use cml_hub::{End, Hub, Item};
 use cml_phrase::{function_name, push_place, statement_places};
@@ -132,6 +133,23 @@ fn push_ring(alloc: Global, out: &mut Vec<u8>, ring: &[u32]) -> Result<(), Alloc
     out.extend_from_slice(b"\n")
 }
 
+// Appends how many threads are left, and why the run has ended; or how many servers wait, where all is well.
+fn push_first(
+    alloc: Global,
+    out: &mut Vec<u8>,
+    ending: &Ending,
+    served: bool,
+) -> Result<(), AllocError> {
+    if served {
+        let waits = ending.waits as u64;
+        push_many(alloc, out, " server waits", " servers wait", waits)?;
+        return out.extend_from_slice(b", and nothing more can happen\n");
+    }
+    push_counts(alloc, out, ending.waits, ending.runs)?;
+    out.extend_from_slice(b", and ")?;
+    push_why(alloc, out, ending)
+}
+
 // Appends what is said of the threads that are left: the first line, a line for each, and the ring.
 fn push_all_left(
     alloc: Global,
@@ -139,10 +157,9 @@ fn push_all_left(
     name: &str,
     forms: &[Sexpr],
     ending: &Ending,
+    served: bool,
 ) -> Result<(), AllocError> {
-    push_counts(alloc, out, ending.waits, ending.runs)?;
-    out.extend_from_slice(b", and ")?;
-    push_why(alloc, out, ending)?;
+    push_first(alloc, out, ending, served)?;
     for left in &ending.left {
         push_left(alloc, out, name, forms, left)?;
     }
@@ -164,8 +181,20 @@ pub fn write_ending(
     forms: &[Sexpr],
     ending: &Ending,
 ) -> Result<(), AllocError> {
+    write_end(alloc, out, name, forms, ending, false)
+}
+
+// Appends the same; or that servers alone wait.
+fn write_end(
+    alloc: Global,
+    out: &mut Vec<u8>,
+    name: &str,
+    forms: &[Sexpr],
+    ending: &Ending,
+    served: bool,
+) -> Result<(), AllocError> {
     if ending.waits != 0 || ending.runs != 0 {
-        push_all_left(alloc, out, name, forms, ending)?;
+        push_all_left(alloc, out, name, forms, ending, served)?;
     }
     if ending.faults == 0 {
         return Ok(());
@@ -174,7 +203,13 @@ pub fn write_ending(
     out.extend_from_slice(b" ended at a fault\n")
 }
 
-/// How the run of this hub ended, in words. The script has this name, text and forms.
+// Whether threads wait at the end, and each is a server.
+fn is_served(hub: &Hub, servers: &[u32], ending: &Ending) -> bool {
+    hub.end() == End::Quiet && ending.waits != 0 && !is_stuck(hub, servers)
+}
+
+/// How the run of this hub ended, in words. The script has this name, text and forms; threads that began with one of these functions are
+/// servers.
 ///
 /// # Errors
 /// Out of memory.
@@ -184,10 +219,12 @@ pub fn explain_end(
     text: &[u8],
     forms: &[Sexpr],
     hub: &Hub,
+    servers: &[u32],
 ) -> Result<Vec<u8>, AllocError> {
     let places = statement_places(alloc, text, forms)?;
     let ending = ending_of(alloc, hub, places.as_slice())?;
     let mut out = Vec::new(alloc);
-    write_ending(alloc, &mut out, name, forms, &ending)?;
+    let served = is_served(hub, servers, &ending);
+    write_end(alloc, &mut out, name, forms, &ending, served)?;
     Ok(out)
 }

@@ -1,8 +1,9 @@
 //! Words for numbers, threads, and what a thread waits for.
 
 use crate::ending::awaited::{Awaited, AwaitedEvent, Named};
-use cml_phrase::{Told, push_event, push_events, push_thread};
+use cml_phrase::{Told, Who, push_event, push_events, push_thread};
 use cml_text::Sexpr;
+use cml_value::{Base, BaseKind};
 use std::alloc::{AllocError, Global};
 
 /// Appends a number.
@@ -46,10 +47,22 @@ pub fn push_named(
     push_thread(alloc, out, forms, named.who())
 }
 
+// The thread behind a base event: of an M-variable by its number alone, since its own line says the rest.
+fn who_behind<'a>(base: &Base, named: &'a Named) -> Who<'a> {
+    let who = named.who();
+    match base.kind() {
+        BaseKind::Join(_) => who,
+        _ => Who {
+            thread: who.thread,
+            began: None,
+        },
+    }
+}
+
 // What is said of a base event.
 fn told(event: &AwaitedEvent) -> Told<'_> {
     let who = match &event.behind {
-        Some(named) => Some(named.who()),
+        Some(named) => Some(who_behind(&event.base, named)),
         None => None,
     };
     Told {
