@@ -18,6 +18,7 @@ pub mod DrawLemmas
 pub mod LotLemmas
 pub mod PriorityLemmas
 pub mod RunLemmas
+pub mod SeedLemmas
 pub mod CutLemmas
 pub mod SearchLemmas
 pub mod ShrinkLemmas

@@ -1,0 +1,8 @@
+//! What holds of the run by each seed. A function does nothing, and its contract is the law.
+
+ghost use Rattle.cml_explore.specs.SeedLaws.{SeedRunsLead};
+
+/// The schedule of the run by a seed can be followed from the start, and leads to where the run stands, in each order.
+pub fn a_seed_run_leads_where_it_stands()
+    ensures { SeedRunsLead }
+{}
