@@ -1,106 +1,164 @@
--- The run by each seed leads where it says: no item is added but one that is allowed where the run stands.
-use Rattle.std.proofs.Common.{◌≡◌, ℕ, zero, suc, Bool, true, false, if◌then◌else◌, List, [], ◌∷◌, ◌++◌, length, Option, Some, None, refl, ap, sym, ◌∙◌, subst}
-use Rattle.std.specs.Prelude.{option_map, option_and_then, unwrap_or}
+-- The run by each seed leads where it stands, and is over.
+use Rattle.std.proofs.Common.{◌≡◌, ℕ, zero, suc, ◌+◌, ◌<◌, ◌≤◌, nat_le, Bool, true, false, not, ◌&&◌, ◌||◌, if◌then◌else◌, List, [], ◌∷◌, length, Option, Some, None, refl, sym, subst, arith}
+use Rattle.std.specs.Prelude.{unwrap_or, slice_get}
+use Rattle.std.specs.List.{list_any}
+use Rattle.std.specs.Option.{option_map_or}
+use Rattle.std.proofs.lemmas.Bool.{and_parts}
+use Rattle.std.proofs.lemmas.Bool.Decides.{nat_tests}
 use Rattle.rand_pcg.specs.Lcg.{Lcg}
-use Rattle.cml_value.specs.declared.number.Tid.{Tid}
-use Rattle.cml_scan.specs.World.{PlainWorld}
-use Rattle.cml_scan.specs.Scan.{scan}
+use Rattle.cml_scan.specs.World.{PlainThread, PlainWorld}
+use Rattle.cml_scan.specs.Scan.{scan, has_row}
 use Rattle.cml_scan.specs.declared.meet.Meet.{Meet}
 use Rattle.cml_schedule.specs.declared.item.Item.{Item}
-use Rattle.cml_schedule.specs.declared.item.Item.TheVariants.{Turn, Clock}
+use Rattle.cml_schedule.specs.declared.item.Item.TheVariants.{Turn, Meet as Commit, Exchange, Clock}
 use Rattle.cml_check.specs.Syntax.{PlainItem}
 use Rattle.cml_step.specs.Calls.{text_of}
 use Rattle.cml_step.specs.Terms.{Program}
+use Rattle.cml_book.specs.Swaps.{are_swaps}
+use Rattle.cml_book.specs.Walks.{runs}
+use Rattle.cml_hub.specs.Choices.{seeded}
 use Rattle.cml_hub.specs.Courses.{run_of}
 use Rattle.cml_hub.specs.Kept.{Kept}
-use Rattle.cml_hub.specs.Runs.{Run, stands, advance, next_alarm, over}
-use Rattle.cml_hub.specs.Playing.{Rules, Played, picked, spent, parties, taking, ready_after, begun_by, adds, moved_by, next_by, played, run_by, playing}
+use Rattle.cml_hub.specs.Playing.{Rules, Played, begun_by, next_by, played}
+use Rattle.cml_hub.specs.Runs.{Run, stands, any_runs, is_empty, is_none, next_alarm, has_number, is_allowed, terminal, over}
 use Rattle.cml_hub.proofs.Standing.{leads_on}
-use Rattle.cml_explore.specs.Draws.{Way, Drawn, item_added, led_by, one_drawn, more_drawn, begun_drawn, run_drawn, drawn_at}
-use Rattle.cml_explore.specs.Lots.{by_lot}
+use Rattle.cml_explore.specs.Draws.{Way, Drawn, item_added, led_by, one_drawn, more_drawn, begun_drawn, run_drawn}
 use Rattle.cml_explore.specs.Generators.{by_generator}
+use Rattle.cml_explore.specs.Lots.{by_lot}
 use Rattle.cml_explore.specs.Priorities.{PlainPriorities, begun_priorities, by_priority, points_span}
-use Rattle.cml_hub.specs.Choices.{seeded}
+use Rattle.cml_explore.specs.SeedLaws.{SeedRunsLead, SeedRunsEnd}
 use Rattle.cml_explore.specs.SeedRuns.{EndsWithin, IsSeedRun}
-use Rattle.cml_explore.specs.SeedLaws.{SeedRunsLead}
 use Rattle.cml_explore.specs.declared.seed.order.Order.{Order}
 use Rattle.cml_explore.specs.declared.seed.order.Order.TheVariants as orders
+use Rattle.cml_explore.proofs.AllowedLemmas.{HaveTerms, item_goes}
+use Rattle.cml_explore.proofs.QueueLemmas.{IsOnWay, begun_on, next_goes}
+use Rattle.cml_explore.proofs.WayLemmas.{IsAllowed, InRange, generator_fair, lot_allowed, priority_allowed}
 
--- a schedule that leads to this run
-abbrev LeadsHere : Program → List Item → Run → Type 0
-LeadsHere p items r = stands p items ≡ Some r
+-- the schedule leads to this run, which is over
+abbrev pub EndsThere : Program → ℕ → List Item → Run → Type 0
+EndsThere p budget items r = (stands p items ≡ Some r) × (over budget r ≡ true)
 
-one_or_other : {X : Type 0} (P : X → Type 0) (b : Bool) (x y : X) → P x → P y → P (if b then x else y)
-one_or_other P true x y h g = h
-one_or_other P false x y h g = g
+pub still_left : (a b : Bool) → a || b ≡ false → (a ≡ false) × (b ≡ false)
+still_left true b e = cc
+still_left false b e = (refl, e)
+
+told_used : (budget used : ℕ) → budget ≤ used → nat_le budget used ≡ true
+told_used budget used h = grind (arith, nat_tests)
+
+used_up : (a : Bool) (budget used : ℕ) → budget ≤ used + 0 → a || nat_le budget used ≡ true
+used_up true budget used h = refl
+used_up false budget used h = told_used budget used (omega (arith, h))
+
+pub one_less : (budget a b n : ℕ) → budget ≤ a + suc n → a < b → budget ≤ b + n
+one_less budget a b n h less = omega (arith, h, less)
+
+pub none_used : (budget : ℕ) → budget ≤ 0 + budget
+none_used budget = omega arith
+
+pub if_over : {X : Type 0} (P : X → Type 0) (b : Bool) (x y : X) → (b ≡ true → P x) → (b ≡ false → P y) → P (if b then x else y)
+if_over P true x y f g = f refl
+if_over P false x y f g = g refl
 
 -- By a chooser.
-abbrev IsOnWay : {C : Type 0} → Program → Played C → Type 0
-IsOnWay p g = LeadsHere p g.items g.run
-
--- where something is played, it is on its way
-abbrev MayGo : {C : Type 0} → Program → Option (Played C) → Type 0
-MayGo p None = Unit {0}
-MayGo p (Some g) = IsOnWay p g
-
-adds_go : {C : Type 0} (p : Program) (g : Played C) (item : Item) (queue : PlainWorld → List Tid) (chooser : C) → IsOnWay p g → MayGo p (adds p g item queue chooser)
-adds_go {C = C} p g item queue chooser h = at (advance p g.run item) refl
-  where
-    at : (o : Option Run) → advance p g.run item ≡ o
-        → MayGo {C = C} p (option_map (λ r. record { items = g.items ++ item ∷ []; run = r; queue = queue r.world; chooser = chooser }) o)
-    at None e = tt
-    at (Some r) e = leads_on p g.items item g.run (Some r) h e
-
-moved_go : {C : Type 0} (p : Program) (rules : Rules C) (g : Played C) (o : Option Meet) → IsOnWay p g → MayGo p (moved_by p rules g o)
-moved_go p rules g (Some row) h = adds_go p g (taking g.run.world row) (λ w. g.queue ++ parties row) (spent rules g.chooser (Some row)) h
-moved_go {C = C} p rules g None h = at (next_alarm g.run.world)
-  where
-    at : (o : Option ℕ) → MayGo {C = C} p (option_and_then (λ tick. adds p g (Clock tick) (λ w. g.queue) g.chooser) o)
-    at None = tt
-    at (Some tick) = adds_go p g (Clock tick) (λ w. g.queue) g.chooser h
-
-next_go : {C : Type 0} (p : Program) (rules : Rules C) (g : Played C) (queue : List Tid) → IsOnWay p g → MayGo p (next_by p rules g queue)
-next_go p rules g [] h = moved_go p rules g (picked rules g.chooser (scan g.run.world)) h
-next_go p rules g (t ∷ rest) h = adds_go p g (Turn t) (λ w. rest ++ ready_after g.run.world w t) g.chooser h
-
-goes_or_stays : {C : Type 0} (p : Program) (g : Played C) (o : Option (Played C)) → IsOnWay p g → MayGo p o → IsOnWay p (unwrap_or o g)
-goes_or_stays p g None h m = h
-goes_or_stays p g (Some k) h m = m
-
-played_go : {C : Type 0} (p : Program) (budget : ℕ) (rules : Rules C) (n : ℕ) (g : Played C) → IsOnWay p g → IsOnWay p (played p budget rules n g)
-played_go p budget rules zero g h = h
-played_go {C = C} p budget rules (suc n) g h =
-    one_or_other {X = Played C} (IsOnWay p) (over budget g.run) g (played p budget rules n (unwrap_or (next_by p rules g g.queue) g)) h
-    (played_go p budget rules n (unwrap_or (next_by p rules g g.queue) g) (goes_or_stays p g (next_by p rules g g.queue) h (next_go p rules g g.queue h)))
-
-run_goes : {C : Type 0} (p : Program) (budget : ℕ) (rules : Rules C) (chooser : C) → IsOnWay p (run_by p budget rules chooser)
-run_goes p budget rules chooser = played_go p budget rules budget (begun_by p chooser) refl
+played_ends : {C : Type 0} (p : Program) (budget : ℕ) (rules : Rules C) → InRange rules → (n : ℕ) (g : Played C) → IsOnWay p g → budget ≤ g.run.used + n
+    → EndsThere p budget (played p budget rules n g).items (played p budget rules n g).run
+played_ends p budget rules fair zero g h few = (h.leads, used_up (terminal g.run.world) budget g.run.used few)
+played_ends {C = C} p budget rules fair (suc n) g h few =
+    if_over (λ (k : Played C). EndsThere p budget k.items k.run) (over budget g.run) g (played p budget rules n (unwrap_or (next_by p rules g g.queue) g)) (λ e. (h.leads, e))
+    (λ e.
+    let x = next_goes p rules fair g h g.queue refl (still_left (terminal g.run.world) (nat_le budget g.run.used) e).0 in
+    subst (λ (o : Option (Played C)). EndsThere p budget (played p budget rules n (unwrap_or o g)).items (played p budget rules n (unwrap_or o g)).run) (sym x.is)
+    (played_ends p budget rules fair n x.next x.on (one_less budget g.run.used x.next.run.used n few x.uses)))
 
 -- By what is drawn.
-abbrev IsDrawnSo : {S : Type 0} → Program → Drawn S → Type 0
-IsDrawnSo p g = LeadsHere p g.items g.run
+record IsDrawn {S : Type 0} (p : Program) (g : Drawn S) : Type 0 where
+  leads : stands p g.items ≡ Some g.run
+  terms : HaveTerms g.run
 
-added_so : {S : Type 0} (p : Program) (g : Drawn S) (state : S) (o : Option Item) (m : Option Run) → led_by p g.run o ≡ m → IsDrawnSo p g → IsDrawnSo p (item_added g state o m)
-added_so p g state None m e h = h
-added_so p g state (Some item) None e h = h
-added_so p g state (Some item) (Some r) e h = leads_on p g.items item g.run (Some r) h e
+record IsAdded {S : Type 0} (p : Program) (g new : Drawn S) : Type 0 where
+  uses : g.run.used < new.run.used
+  on : IsDrawn p new
 
-more_so : {S : Type 0} (way : Way S) (p : Program) (budget n : ℕ) (g : Drawn S) → IsDrawnSo p g → IsDrawnSo p (more_drawn way p budget n g)
-more_so way p budget zero g h = h
-more_so {S = S} way p budget (suc n) g h =
-    let d = way (length g.items) g.run.world g.state in
-    one_or_other {X = Drawn S} (IsDrawnSo p) (over budget g.run) g (more_drawn way p budget n (one_drawn p g d)) h
-    (more_so way p budget n (one_drawn p g d) (added_so p g d.1 d.0 (led_by p g.run d.0) refl h))
+drawn_added : {S : Type 0} (p : Program) (g : Drawn S) (state : S) (o : Option Item) → IsDrawn p g → IsAllowed g.run.world o → IsAdded p g (item_added g state o (led_by p g.run o))
+drawn_added p g state None h ok = absurd ok
+drawn_added p g state (Some item) h ok =
+    let to = item_goes p g.run item h.terms ok in
+    subst (λ (m : Option Run). IsAdded p g (item_added g state (Some item) m)) (sym to.leads)
+    (record { uses = to.uses; on = record { leads = leads_on p g.items item g.run (Some to.next) h.leads to.leads; terms = to.terms } })
 
-run_so : {S : Type 0} (way : Way S) (p : Program) (budget : ℕ) (state : S) → IsDrawnSo p (run_drawn way p budget state)
-run_so way p budget state = more_so way p budget budget (begun_drawn p state) refl
+module _ {S : Type 0} (way : Way S) (draws : (items : ℕ) (w : PlainWorld) (s : S) → terminal w ≡ false → IsAllowed w (way items w s).0) (p : Program) (budget : ℕ) where
+  more_ends : (n : ℕ) (g : Drawn S) → IsDrawn p g → budget ≤ g.run.used + n → EndsThere p budget (more_drawn way p budget n g).items (more_drawn way p budget n g).run
+  more_ends zero g h few = (h.leads, used_up (terminal g.run.world) budget g.run.used few)
+  more_ends (suc n) g h few =
+      let d = way (length g.items) g.run.world g.state in
+      if_over (λ (k : Drawn S). EndsThere p budget k.items k.run) (over budget g.run) g (more_drawn way p budget n (one_drawn p g d)) (λ e. (h.leads, e))
+      (λ e.
+      let x = drawn_added p g d.1 d.0 h (draws (length g.items) g.run.world g.state (still_left (terminal g.run.world) (nat_le budget g.run.used) e).0) in
+      more_ends n (one_drawn p g d) x.on (one_less budget g.run.used (one_drawn p g d).run.used n few x.uses))
+
+  drawn_ends : (state : S) → EndsThere p budget (run_drawn way p budget state).items (run_drawn way p budget state).run
+  drawn_ends state = more_ends budget (begun_drawn p state) (record { leads = refl; terms = refl }) (none_used budget)
 
 -- In each order.
-ends_lead : (p : Program) (budget : ℕ) (order : Order) (span : ℕ) (state : Lcg) (h : Kept) → EndsWithin p budget order span state h → LeadsHere p h.course.items (run_of h.course)
-ends_lead p budget orders.Queue span state h e = subst (λ (g : Played Lcg). LeadsHere p g.items g.run) (sym e.1) (run_goes p budget by_generator state)
-ends_lead p budget orders.Lot span state h e = subst (λ (g : Drawn Lcg). LeadsHere p g.items g.run) (sym e.1) (run_so by_lot p budget state)
-ends_lead p budget (orders.Priority depth) span state h e =
-    subst (λ (g : Drawn PlainPriorities). LeadsHere p g.items g.run) (sym e.1) (run_so by_priority p budget (begun_priorities depth span state))
+ends_there : (p : Program) (budget : ℕ) (order : Order) (span : ℕ) (state : Lcg) (h : Kept) → EndsWithin p budget order span state h → EndsThere p budget h.course.items (run_of h.course)
+ends_there p budget orders.Queue span state h e =
+    subst (λ (g : Played Lcg). EndsThere p budget g.items g.run) (sym e.1) (played_ends p budget by_generator generator_fair budget (begun_by p state) (begun_on p state) (none_used budget))
+ends_there p budget orders.Lot span state h e =
+    subst (λ (g : Drawn Lcg). EndsThere p budget g.items g.run) (sym e.1) (drawn_ends (by_lot by_generator) (λ items. lot_allowed by_generator generator_fair) p budget state)
+ends_there p budget (orders.Priority depth) span state h e =
+    subst (λ (g : Drawn PlainPriorities). EndsThere p budget g.items g.run) (sym e.1) (drawn_ends by_priority priority_allowed p budget (begun_priorities depth span state))
+
+seed_ends : (p : List (PlainItem ℕ)) (budget : ℕ) (order : Order) (seed : ℕ) (h : Kept) → IsSeedRun p budget order seed h → EndsThere (text_of p) budget h.course.items (run_of h.course)
+seed_ends p budget order seed h is = ends_there (text_of p) budget order (points_span (text_of p) budget (seeded seed)) (seeded seed) h is.plays
 
 pub seed_runs_lead : SeedRunsLead
-seed_runs_lead p budget order seed h is = ends_lead (text_of p) budget order (points_span (text_of p) budget (seeded seed)) (seeded seed) h is.plays
+seed_runs_lead p budget order seed h is = (seed_ends p budget order seed h is).0
+
+-- Where nothing is left to do, no item is allowed.
+none_runs : (ts : List PlainThread) (t : ℕ) → list_any runs ts ≡ false → option_map_or runs (slice_get ts t) false ≡ false
+none_runs [] t h = refl
+none_runs (x ∷ ts) zero h = (still_left (runs x) (list_any runs ts) h).0
+none_runs (x ∷ ts) (suc t) h = none_runs ts t (still_left (runs x) (list_any runs ts) h).1
+
+no_rows : (rows : List Meet) → is_empty rows ≡ true → (row : Meet) → has_row rows row ≡ false
+no_rows [] e row = refl
+no_rows (r ∷ rows) e row = cc
+
+no_tick : (o : Option ℕ) → is_none o ≡ true → (tick : ℕ) → has_number o tick ≡ false
+no_tick None e tick = refl
+no_tick (Some t) e tick = cc
+
+not_both : (a b : Bool) → a ≡ false → a && b ≡ false
+not_both a b e = rw e refl
+
+is_not : (b : Bool) → not b ≡ true → b ≡ false
+is_not true e = sym e
+is_not false e = refl
+
+nothing_allowed : (w : PlainWorld) → terminal w ≡ true → (item : Item) → is_allowed w item ≡ false
+nothing_allowed w h item = at item
+  where
+    all : (not (any_runs w) && is_empty (scan w) ≡ true) × (is_none (next_alarm w) ≡ true)
+    all = and_parts (not (any_runs w) && is_empty (scan w)) (is_none (next_alarm w)) h
+
+    two : (not (any_runs w) ≡ true) × (is_empty (scan w) ≡ true)
+    two = and_parts (not (any_runs w)) (is_empty (scan w)) all.0
+
+    at : (item : Item) → is_allowed w item ≡ false
+    at (Turn t) = none_runs w.threads t.0 (is_not (any_runs w) two.0)
+    at (Commit row) = no_rows (scan w) two.1 row
+    at (Exchange row) = not_both (has_row (scan w) row) (are_swaps w row) (no_rows (scan w) two.1 row)
+    at (Clock tick) =
+        not_both (has_number (next_alarm w) tick && not (any_runs w)) (is_empty (scan w))
+        (not_both (has_number (next_alarm w) tick) (not (any_runs w)) (no_tick (next_alarm w) all.1 tick))
+
+not_used : (budget used : ℕ) → nat_le budget used ≡ true → used < budget → ⊥
+not_used budget used e less = (let le : budget ≤ used = grind (arith, nat_tests) in absurd (omega (arith, le, less)))
+
+over_so : (a : Bool) (budget used : ℕ) → a || nat_le budget used ≡ true → used < budget → a ≡ true
+over_so true budget used e less = refl
+over_so false budget used e less = absurd (not_used budget used e less)
+
+pub seed_runs_end : SeedRunsEnd
+seed_runs_end p budget order seed h is left =
+    nothing_allowed h.course.world (over_so (terminal h.course.world) budget h.course.used (seed_ends p budget order seed h is).1 left)
