@@ -22,6 +22,7 @@ pub mod AllowedLemmas
 pub mod WayLemmas
 pub mod QueueLemmas
 pub mod SeedLemmas
+pub mod ReachLemmas
 pub mod CutLemmas
 pub mod SearchLemmas
 pub mod ShrinkLemmas

@@ -19,6 +19,7 @@ pub mod Lots
 pub mod Priorities
 pub mod SeedRuns
 pub mod SeedLaws
+pub mod TurnLaws
 pub mod Cuts
 pub mod ShrinkEnds
 pub mod Shrinking
