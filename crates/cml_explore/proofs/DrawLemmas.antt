@@ -63,7 +63,7 @@ over_on : {S : Type 0} (way : Way S) (p : Program) (budget n : ℕ) (g : Drawn S
 over_on way p budget zero g h = refl
 over_on way p budget (suc n) g h = ap (λ b. if b then g else more_drawn way p budget n (one_drawn p g (way (length g.items) g.run.world g.state))) h
 
-one_on : {S : Type 0} (way : Way S) (p : Program) (budget n m : ℕ) (g : Drawn S) → n ≡ m + 1 → over budget g.run ≡ false
+pub one_on : {S : Type 0} (way : Way S) (p : Program) (budget n m : ℕ) (g : Drawn S) → n ≡ m + 1 → over budget g.run ≡ false
     → more_drawn way p budget n g ≡ more_drawn way p budget m (one_drawn p g (way (length g.items) g.run.world g.state))
 one_on way p budget zero m g is h = absurd (omega arith)
 one_on way p budget (suc n) m g is h =

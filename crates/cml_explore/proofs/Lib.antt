@@ -18,6 +18,11 @@ pub mod DrawLemmas
 pub mod LotLemmas
 pub mod PriorityLemmas
 pub mod RunLemmas
+pub mod AllowedLemmas
+pub mod WayLemmas
+pub mod QueueLemmas
+pub mod SeedLemmas
+pub mod ReachLemmas
 pub mod CutLemmas
 pub mod SearchLemmas
 pub mod ShrinkLemmas

@@ -31,7 +31,7 @@ ends_within : (order : Order) (p : List (PlainItem ℕ)) (budget span seed : ℕ
     → stands (text_of begun.course.program) begun.course.items ≡ Some (run_of begun.course) → PlaysTo order span (seeded seed) begun h
     → EndsWithin (text_of p) budget order span (seeded seed) h
 ends_within orders.Queue p budget span seed begun h begins leads plays = (plays.0, picked_out p budget seed begun h plays.0 begins leads plays.1)
-ends_within orders.Lot p budget span seed begun h begins leads plays = (plays.0, draws_from by_lot p budget (seeded seed) begun h plays.0 begins leads plays.1)
+ends_within orders.Lot p budget span seed begun h begins leads plays = (plays.0, draws_from (by_lot by_generator) p budget (seeded seed) begun h plays.0 begins leads plays.1)
 ends_within (orders.Priority depth) p budget span seed begun h begins leads plays =
     (plays.0, draws_from by_priority p budget (begun_priorities depth span (seeded seed)) begun h plays.0 begins leads plays.1)
 

@@ -18,6 +18,8 @@ pub mod Draws
 pub mod Lots
 pub mod Priorities
 pub mod SeedRuns
+pub mod SeedLaws
+pub mod TurnLaws
 pub mod Cuts
 pub mod ShrinkEnds
 pub mod Shrinking

@@ -1,6 +1,5 @@
--- The run of a program in which it is drawn by lot what happens next.
+-- The run of a program in which it is drawn by lot what happens next, by the picks of a chooser.
 use Rattle.std.specs.Prelude.{ℕ, suc, ◌+◌, ◌==◌, if◌then◌else◌, List, [], ◌∷◌, ◌++◌, length, Option, Some, None, option_map, slice_get}
-use Rattle.rand_pcg.specs.Lcg.{Lcg}
 use Rattle.cml_value.specs.declared.number.Tid.{Tid}
 use Rattle.cml_scan.specs.World.{PlainThread, running, pending_on, ended, PlainWorld}
 use Rattle.cml_scan.specs.Scan.{scan}
@@ -8,8 +7,7 @@ use Rattle.cml_scan.specs.declared.meet.Meet.{Meet}
 use Rattle.cml_schedule.specs.declared.item.Item.{Item}
 use Rattle.cml_schedule.specs.declared.item.Item.TheVariants.{Turn, Clock}
 use Rattle.cml_hub.specs.Runs.{next_alarm, is_empty}
-use Rattle.cml_hub.specs.Playing.{picked, spent, taking}
-use Rattle.cml_explore.specs.Generators.{by_generator}
+use Rattle.cml_hub.specs.Playing.{Rules, picked, spent, taking}
 use Rattle.cml_explore.specs.Draws.{Way}
 
 -- the thread of this number, if it runs
@@ -27,25 +25,25 @@ ready_from n (t ∷ ts) = ready_of n t ++ ready_from (suc n) ts
 abbrev pub row_choices : List Meet → ℕ
 row_choices rows = if is_empty rows then 0 else 1
 
--- a row is taken, which the generator picks as in every run
-abbrev pub row_by_lot : PlainWorld → Lcg → Option Meet → Option Item × Lcg
-row_by_lot w state row = (option_map (taking w) row, spent by_generator state row)
+-- a row is taken, which the chooser picks as in every run
+abbrev pub row_by_lot : {C : Type 0} → Rules C → PlainWorld → C → Option Meet → Option Item × C
+row_by_lot rules w chooser row = (option_map (taking w) row, spent rules chooser row)
 
 -- The thread on which the lot fell has its turn; or, where it fell on none, a row is taken.
-abbrev pub item_by_lot : PlainWorld → Lcg → Option Tid → Option Item × Lcg
-item_by_lot w state (Some t) = (Some (Turn t), state)
-item_by_lot w state None = row_by_lot w state (picked by_generator state (scan w))
+abbrev pub item_by_lot : {C : Type 0} → Rules C → PlainWorld → C → Option Tid → Option Item × C
+item_by_lot rules w chooser (Some t) = (Some (Turn t), chooser)
+item_by_lot rules w chooser None = row_by_lot rules w chooser (picked rules chooser (scan w))
 
--- The next item, and the generator once it was drawn. What can happen is a turn of each thread that runs, by number, and behind these that a
--- row is taken, where one can be. The next word of the generator, modulo how many these are, says which of them happens, counted from 0. Where
--- there are none no word is used, and the time moves to the next alarm, if there is one.
-abbrev pub next_by_lot : PlainWorld → Lcg → Option Item × Lcg
-next_by_lot w state =
+-- The next item, and the chooser once it was drawn. What can happen is a turn of each thread that runs, by number, and behind these that a row is
+-- taken, where one can be. The next pick of the chooser says which of them happens, counted from 0: of a generator that is its next word, modulo how
+-- many these are. Where there are none nothing is picked, and the time moves to the next alarm, if there is one.
+abbrev pub next_by_lot : {C : Type 0} → Rules C → PlainWorld → C → Option Item × C
+next_by_lot rules w chooser =
     let ready = ready_from 0 w.threads in
     let choices = length ready + row_choices (scan w) in
-    if choices == 0 then (option_map Clock (next_alarm w), state)
-    else item_by_lot w (by_generator.next state) (slice_get ready (by_generator.picks state choices))
+    if choices == 0 then (option_map Clock (next_alarm w), chooser)
+    else item_by_lot rules w (rules.next chooser) (slice_get ready (rules.picks chooser choices))
 
 -- What happens next is drawn by lot.
-abbrev pub by_lot : Way Lcg
-by_lot items w state = next_by_lot w state
+abbrev pub by_lot : {C : Type 0} → Rules C → Way C
+by_lot rules items w chooser = next_by_lot rules w chooser

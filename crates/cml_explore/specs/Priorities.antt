@@ -79,7 +79,7 @@ actor w g (Some t) = if row_is_first w g t then None else Some t
 abbrev pub item_of_actor : PlainWorld → Lcg → Option Tid → Option Item × Lcg
 item_of_actor w state (Some t) = (Some (Turn t), state)
 item_of_actor w state None =
-    if is_empty (scan w) then (option_map Clock (next_alarm w), state) else row_by_lot w state (picked by_generator state (scan w))
+    if is_empty (scan w) then (option_map Clock (next_alarm w), state) else row_by_lot by_generator w state (picked by_generator state (scan w))
 
 -- the party of a thread; where there is none, that of the rows
 abbrev pub party_of : Option Tid → ℕ

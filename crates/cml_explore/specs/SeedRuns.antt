@@ -18,7 +18,7 @@ use Rattle.cml_explore.specs.Priorities.{PlainPriorities, begun_priorities, by_p
 -- and rows alone are picked; or it is drawn by lot what happens next; or priorities say it, whose points are drawn within this span.
 abbrev pub EndsWithin : Program → ℕ → Order → ℕ → Lcg → Kept → Type 0
 EndsWithin p budget orders.Queue span state h = (last : Lcg) × (playing h last ≡ run_by p budget by_generator state)
-EndsWithin p budget orders.Lot span state h = (last : Lcg) × (drawn_at h last ≡ run_drawn by_lot p budget state)
+EndsWithin p budget orders.Lot span state h = (last : Lcg) × (drawn_at h last ≡ run_drawn (by_lot by_generator) p budget state)
 EndsWithin p budget (orders.Priority depth) span state h = (last : PlainPriorities) × (drawn_at h last ≡ run_by_priority p budget depth span state)
 
 -- The hub stands where the run ends that the generator of this state makes in this order.
@@ -36,7 +36,7 @@ pub record IsSeedRun (p : List (PlainItem ℕ)) (budget : ℕ) (order : Order) (
 -- the hub has gone on to its end so
 abbrev pub PlaysTo : Order → ℕ → Lcg → Kept → Kept → Type 0
 PlaysTo orders.Queue span state begun h = (last : Lcg) × PlaysOut by_generator begun state h last
-PlaysTo orders.Lot span state begun h = (last : Lcg) × RunsDrawn by_lot begun state h last
+PlaysTo orders.Lot span state begun h = (last : Lcg) × RunsDrawn (by_lot by_generator) begun state h last
 PlaysTo (orders.Priority depth) span state begun h = (last : PlainPriorities) × RunsDrawn by_priority begun (begun_priorities depth span state) h last
 
 -- the hub has run to its end by this seed

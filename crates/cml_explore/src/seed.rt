@@ -1,5 +1,6 @@
 //! The run of a program that a seed makes.
 
+pub mod law;
 mod lot;
 mod order;
 mod priority;

@@ -79,8 +79,8 @@ fn row_item(hub: &Hub, row: Meet) -> Item
 
 /// The item that takes a row, which is picked, if there is one.
 pub(crate) fn row_item_by_lot(hub: &Hub, chooser: &mut Seeded) -> Option<Item>
-    ensures item { result ≡ (spec.row_by_lot hub.now.course.world chooser.old (picked by_generator chooser.old (scan hub.now.course.world))).0 }
-    ensures state { chooser.new ≡ (spec.row_by_lot hub.now.course.world chooser.old (picked by_generator chooser.old (scan hub.now.course.world))).1 }
+    ensures item { result ≡ (spec.row_by_lot by_generator hub.now.course.world chooser.old (picked by_generator chooser.old (scan hub.now.course.world))).0 }
+    ensures state { chooser.new ≡ (spec.row_by_lot by_generator hub.now.course.world chooser.old (picked by_generator chooser.old (scan hub.now.course.world))).1 }
 {
     match pick_row(hub, chooser) {
         Some(row) => Some(row_item(hub, row)),
@@ -113,8 +113,8 @@ pub(crate) fn alarm_item(hub: &Hub) -> Option<Item>
 // The item that comes next is drawn, where these threads run.
 fn next_item(hub: &Hub, ready: &[Tid], chooser: &mut Seeded) -> Option<Item>
     requires { ready.now ≡ spec.ready_from 0 hub.now.course.world.threads }
-    ensures item { result ≡ (spec.next_by_lot hub.now.course.world chooser.old).0 }
-    ensures state { chooser.new ≡ (spec.next_by_lot hub.now.course.world chooser.old).1 }
+    ensures item { result ≡ (spec.next_by_lot by_generator hub.now.course.world chooser.old).0 }
+    ensures state { chooser.new ≡ (spec.next_by_lot by_generator hub.now.course.world chooser.old).1 }
 {
     let choices = ready.len() + row_choices(hub);
     if choices == 0 {
@@ -129,7 +129,7 @@ fn next_item(hub: &Hub, ready: &[Tid], chooser: &mut Seeded) -> Option<Item>
 // One item more, as it was drawn.
 fn go(alloc: Global, hub: &mut Hub, chooser: &mut Seeded) -> Result<(), AllocError>
     requires { NoneOut hub.old }
-    ensures ok { OnOk result (GoesDrawn by_lot hub.old chooser.old hub.new chooser.new) }
+    ensures ok { OnOk result (GoesDrawn (by_lot by_generator) hub.old chooser.old hub.new chooser.new) }
     ensures none_out { NoneOut hub.new }
 {
     let ready = ready_threads(alloc, hub)?;
@@ -163,7 +163,7 @@ pub(crate) fn run_by_lot(
     chooser: &mut Seeded,
 ) -> Result<(), AllocError>
     requires { NoneOut hub.old }
-    ensures { OnOk result (RunsDrawn by_lot hub.old chooser.old hub.new chooser.new) }
+    ensures { OnOk result (RunsDrawn (by_lot by_generator) hub.old chooser.old hub.new chooser.new) }
 {
     // Each item uses at least 1 of the budget, so `left` ends no run before `is_over` does; by it the prover sees that the loop ends.
     let mut left = hub.budget();
