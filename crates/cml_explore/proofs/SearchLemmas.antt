@@ -5,7 +5,8 @@ use Rattle.std.proofs.lemmas.List.{length-take-le}
 use Rattle.cml_check.specs.Syntax.{PlainItem}
 use Rattle.cml_schedule.specs.declared.item.Item.{Item}
 use Rattle.cml_facts.specs.declared.fault.detail.Detail.{Detail}
-use Rattle.cml_explore.specs.Cuts.{acts_in, without_rest}
+use Rattle.cml_explore.specs.Cuts.{acts_in, without_rest, IsSelection}
+use Rattle.cml_explore.proofs.CutLemmas.{selection_of_all, selection_trans, selection_few}
 use Rattle.cml_step.specs.Calls.{text_of}
 use Rattle.cml_judge.specs.Stops.{StopsBehind}
 use Rattle.cml_explore.specs.declared.shrink.replay.Asked.{Asked}
@@ -35,7 +36,7 @@ both_else A B C old mid new h (inr a) (inl e) f = inl e
 both_else A B C old mid new h (inr a) (inr b) f = inr (f a b)
 
 pub then_step : (g : Goal) (A B C : Type 0) (old mid new : PlainSearch) (came : Bool) → Steps g A old false mid → Steps g B mid came new → (A → B → C) → Steps g C old came new
-then_step g A B C old mid new true s t f = let e : length mid.items ≡ length old.items = ap length s.0 in (t.0, omega arith, omega arith)
+then_step g A B C old mid new true s t f = (t.0, subst (λ (items : List Item). IsSelection items new.items) s.0 t.1, omega arith)
 then_step g A B C old mid new false s t f = (t.0 ∙ s.0, omega arith, both_else A B C old.left mid.left new.left t.1 s.2 t.2 f)
 
 pub then_step_ok : {E : Type 0} (r : Result Bool E) (g : Goal) (A B C : Type 0) (old mid new : PlainSearch) → Steps g A old false mid → IfOk r (λ came. Steps g B mid came new)
@@ -45,10 +46,10 @@ then_step_ok (Err e) g A B C old mid new s t f = tt
 
 -- Something was left out before, and whatever comes of the next step.
 pub came_before : (g : Goal) (A B C : Type 0) (old mid new : PlainSearch) (came : Bool) → Steps g A old true mid → Steps g B mid came new → Steps g C old true new
-came_before g A B C old mid new true s t = (t.0, omega arith, omega arith)
+came_before g A B C old mid new true s t = (t.0, selection_trans old.items mid.items new.items s.1 t.1, omega arith)
 came_before g A B C old mid new false s t =
-    let e : length new.items ≡ length mid.items = ap length t.0 in
-    (subst (λ (items : List Item). AlikeTo g items) (sym t.0) s.0, omega arith, omega arith)
+    let more = subst (λ (items : List Item). IsSelection old.items items) (sym t.0) s.1 in
+    (subst (λ (items : List Item). AlikeTo g items) (sym t.0) s.0, more, omega arith)
 
 pub join_steps : (g : Goal) (A B C : Type 0) (old mid new : PlainSearch) (one other : Bool) → Steps g A old one mid → Steps g B mid other new → (mid.items ≡ old.items → A → B → C)
     → Steps g C old (one || other) new
@@ -85,18 +86,19 @@ pass_ends g old new came done h s = step_as g (NeededFrom g old.items done) (Min
 
 -- what holds after a step, whatever came of it
 pub step_goes : (g : Goal) (A : Type 0) (old new : PlainSearch) (came : Bool) → AlikeTo g old.items → Steps g A old came new → Goes g old new
-step_goes g A old new true alike s = record { ends_alike = s.0; no_longer = s.1; tries = omega arith }
+step_goes g A old new true alike s = record { ends_alike = s.0; selects = s.1; tries = omega arith }
 step_goes g A old new false alike s = record {
   ends_alike = subst (λ (items : List Item). AlikeTo g items) (sym s.0) alike;
-  no_longer = omega (arith, ap length s.0);
+  selects = subst (λ (items : List Item). IsSelection old.items items) (sym s.0) (selection_of_all old.items);
   tries = s.1;
 }
 
 pub goes_nowhere : (g : Goal) (s : PlainSearch) → AlikeTo g s.items → Goes g s s
-goes_nowhere g s alike = record { ends_alike = alike; no_longer = omega arith; tries = omega arith }
+goes_nowhere g s alike = record { ends_alike = alike; selects = selection_of_all s.items; tries = omega arith }
 
 pub goes_on : (g : Goal) (old mid new : PlainSearch) → Goes g old mid → Goes g mid new → Goes g old new
-goes_on g old mid new s t = record { ends_alike = t.ends_alike; no_longer = omega (arith, s.no_longer, t.no_longer); tries = omega (arith, s.tries, t.tries) }
+goes_on g old mid new s t =
+    record { ends_alike = t.ends_alike; selects = selection_trans old.items mid.items new.items s.selects t.selects; tries = omega (arith, s.tries, t.tries) }
 
 pub step_came : (g : Goal) (A C : Type 0) (old new : PlainSearch) (came : Bool) → came ≡ true → Steps g A old came new → Steps g C old true new
 step_came g A C old new true e s = s
@@ -151,9 +153,10 @@ begins_so g given tries s e left alike = record { ends_alike = subst (λ (items 
 
 pub finds_so : (g : Goal) (given : List Item) (tries : ℕ) (s a b c d : PlainSearch) → SearchBegins g given tries s → Goes g s a → SearchSettles g a b → Goes g b c → SearchSettles g c d
     → SearchFinds g given tries d
-finds_so g given tries s a b c d begins first second third last = record {
+finds_so g given tries s a b c d begins first second third last =
+    let all = goes_on g s b d (goes_on g s a b first second.goes) (goes_on g b c d third last.goes) in record {
   ends_alike = last.goes.ends_alike;
-  no_longer = omega (arith, ap length begins.items_are, first.no_longer, second.goes.no_longer, third.no_longer, last.goes.no_longer);
+  selects = subst (λ (items : List Item). IsSelection items d.items) begins.items_are all.selects;
   in_tries = omega (arith, begins.left_is, first.tries, second.goes.tries, third.tries, last.goes.tries);
   minimal = last.minimal;
 }
@@ -181,7 +184,8 @@ shrunk_so g items given count own found s ended finds so part same is =
       ended = subst (λ (ds : List Detail). EndsWith g.program.now g.asked (take count items) ds) (sym same)
           (subst (λ (l : List Item). EndsWith g.program.now g.asked l own) part ended);
       ends_alike = finds.ends_alike;
-      no_longer = omega (arith, finds.no_longer, long);
+      selects = subst (λ (l : List Item). IsSelection l found.items) part finds.selects;
+      no_longer = omega (arith, selection_few given found.items finds.selects, long);
       in_tries = omega arith;
       minimal = elim finds.minimal [ inl e ↦ inl (omega (arith, e)) | inr least ↦ inr least ];
     })

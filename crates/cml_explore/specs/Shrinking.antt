@@ -3,7 +3,7 @@ use Rattle.std.specs.Prelude.{ℕ, ◌≡◌, ◌≤◌, ◌<◌, ◌⊎◌, tru
 use Rattle.cml_check.specs.Syntax.{PlainItem}
 use Rattle.cml_schedule.specs.declared.item.Item.{Item}
 use Rattle.cml_facts.specs.declared.fault.detail.Detail.{Detail}
-use Rattle.cml_explore.specs.Cuts.{acts_in, without_rest}
+use Rattle.cml_explore.specs.Cuts.{acts_in, without_rest, IsSelection}
 use Rattle.cml_explore.specs.ShrinkEnds.{EndsWith, EndsAlike, IsGiven, IsUnlike}
 use Rattle.cml_explore.specs.declared.shrink.replay.Asked.{Asked}
 
@@ -23,7 +23,7 @@ abbrev pub IsMinimal : List (PlainItem ℕ) → Asked → List Detail → List I
 IsMinimal p asked details items = (i : ℕ) → i < length items → IsNeeded p asked details items i
 
 -- The schedule of this program that was found for the given items, or, where it is to stop, for those up to where their run stops: it can be followed
--- from the start and ends as they do, it is not longer than they are, and no item of it can be left out by itself, nor one thread's items from some
+-- from the start and ends as they do, its items are a selection of theirs, so that it is not longer, and no item of it can be left out by itself, nor one thread's items from some
 -- point on, unless all tries were used.
 pub record IsShrunk (p : List (PlainItem ℕ)) (asked : Asked) (given : List Item) (found : PlainShrunk) : Type 0 where
   pub count : ℕ
@@ -31,6 +31,7 @@ pub record IsShrunk (p : List (PlainItem ℕ)) (asked : Asked) (given : List Ite
   pub details : List Detail
   pub ended : EndsWith p asked (take count given) details
   pub ends_alike : EndsAlike p asked details found.items
+  pub selects : IsSelection (take count given) found.items
   pub no_longer : length found.items ≤ count
   pub in_tries : found.used ≤ asked.tries
   pub minimal : (found.used ≡ asked.tries) ⊎ IsMinimal p asked details found.items

@@ -1,6 +1,6 @@
 //! Shorter lists of items.
 
-ghost use Rattle.std.specs.Prelude.{◌≡◌, ◌<◌, ◌≤◌, ◌++◌, IfOk, OnOk, filter, length, not, remove};
+ghost use Rattle.std.specs.Prelude.{◌≡◌, ◌<◌, ◌≤◌, ◌+◌, ◌++◌, ◌∷◌, [], IfOk, OnOk, Some, drop, filter, length, not, remove, slice_get, slice_range, take};
 ghost use Rattle.cml_explore.specs.Cuts as spec;
 
 use cml_hub::Item;
@@ -88,11 +88,32 @@ pub(crate) fn without_range(
 ) -> Result<Vec<Item>, AllocError>
     requires start { start ≤ end }
     requires end { end ≤ length items.now }
-    ensures { IfOk result (λ shorter. length shorter.items ≤ length items.now) }
+    ensures { IfOk result (λ shorter. shorter.items ≡ take start items.now ++ drop end items.now) }
 {
     let mut shorter = Vec::from_slice(alloc, &items[..start])?;
     shorter.extend_from_slice(&items[end..])?;
     Ok(shorter)
+}
+
+// The items, with this one, which has a higher number, moved to a lower one.
+fn moved_as(
+    alloc: Global,
+    items: &[Item],
+    item: Item,
+    from: usize,
+    to: usize,
+) -> Result<Vec<Item>, AllocError>
+    requires to { to ≤ from }
+    requires from { from < length items.now }
+    requires item { slice_get items.now from ≡ Some item }
+    ensures { IfOk result (λ moved. (slice_get items.now from ≡ Some item)
+        × (moved.items ≡ take to items.now ++ item ∷ [] ++ slice_range items.now to from ++ drop (from + 1) items.now)) }
+{
+    let mut moved = Vec::from_slice(alloc, &items[..to])?;
+    moved.push(item)?;
+    moved.extend_from_slice(&items[to..from])?;
+    moved.extend_from_slice(&items[from + 1..])?;
+    Ok(moved)
 }
 
 /// The items, with the one of a higher number moved to a lower one.
@@ -107,11 +128,7 @@ pub(crate) fn with_moved(
 ) -> Result<Vec<Item>, AllocError>
     requires to { to ≤ from }
     requires from { from < length items.now }
-    ensures { IfOk result (λ moved. length moved.items ≤ length items.now) }
+    ensures { IfOk result (λ moved. spec.IsSelection items.now moved.items) }
 {
-    let mut moved = Vec::from_slice(alloc, &items[..to])?;
-    moved.push(items[from])?;
-    moved.extend_from_slice(&items[to..from])?;
-    moved.extend_from_slice(&items[from + 1..])?;
-    Ok(moved)
+    moved_as(alloc, items, items[from], from, to)
 }

@@ -24,10 +24,11 @@ fn cut_range(
     requires alike { AlikeTo goal.now search.old.items }
     ensures { OnOk result (Goes goal.now search.old search.new) }
 {
-    if end > search.items.len() {
+    let items = search.items.as_slice();
+    if end > items.len() {
         return Ok(());
     }
-    let shorter = without_range(alloc, search.items.as_slice(), start, end)?;
+    let shorter = without_range(alloc, items, start, end)?;
     search.offer(alloc, goal, shorter)
 }
 
@@ -135,13 +136,14 @@ fn draw_near(
     requires alike { AlikeTo goal.now search.old.items }
     ensures { OnOk result (Goes goal.now search.old search.new) }
 {
-    if number >= search.items.len().saturating_sub(1) {
+    let items = search.items.as_slice();
+    if number >= items.len().saturating_sub(1) {
         return Ok(());
     }
-    let Some(next) = apart(search.items.as_slice(), number) else {
+    let Some(next) = apart(items, number) else {
         return Ok(());
     };
-    let moved = with_moved(alloc, search.items.as_slice(), next, number + 1)?;
+    let moved = with_moved(alloc, items, next, number + 1)?;
     search.offer(alloc, goal, moved)
 }
 

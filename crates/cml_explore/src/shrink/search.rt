@@ -2,7 +2,7 @@
 
 ghost use Rattle.std.specs.Prelude.{◌≡◌, ◌<◌, ◌≤◌, ℕ, true, Some, IfOk, OnOk, ◌==◌, ◌||◌, length, remove, slice_get};
 ghost use Rattle.cml_hub.specs.Kept.{IsBudget};
-ghost use Rattle.cml_explore.specs.Cuts.{is_in_row, acts_in, without_rest as without_rest_of};
+ghost use Rattle.cml_explore.specs.Cuts.{is_in_row, acts_in, without_rest as without_rest_of, IsSelection};
 ghost use Rattle.cml_explore.specs.Searching.{AlikeTo, UnlikeTo, NeededBy, MinimalTo, Steps, SearchBegins, Goes, SearchSettles};
 
 use crate::shrink::cut::{without_item, without_rest};
@@ -76,7 +76,7 @@ impl Search {
         items: Vec<Item>,
     ) -> Result<bool, AllocError>
         requires budget { IsBudget goal.now.asked.budget }
-        requires few { length items.items ≤ length self.old.items }
+        requires selects { IsSelection self.old.items items.items }
         ensures { IfOk result (λ came. Steps goal.now (UnlikeTo goal.now items.items) self.old came self.new) }
     {
         if self.left == 0 {
@@ -101,7 +101,7 @@ impl Search {
         items: Vec<Item>,
     ) -> Result<(), AllocError>
         requires budget { IsBudget goal.now.asked.budget }
-        requires few { length items.items ≤ length self.old.items }
+        requires selects { IsSelection self.old.items items.items }
         requires alike { AlikeTo goal.now self.old.items }
         ensures { OnOk result (Goes goal.now self.old self.new) }
     {
