@@ -155,11 +155,11 @@ pub finds_so : (g : Goal) (given : List Item) (tries : ℕ) (s a b c d : PlainSe
     → SearchFinds g given tries d
 finds_so g given tries s a b c d begins first second third last =
     let all = goes_on g s b d (goes_on g s a b first second.goes) (goes_on g b c d third last.goes) in record {
-  ends_alike = last.goes.ends_alike;
-  selects = subst (λ (items : List Item). IsSelection items d.items) begins.items_are all.selects;
-  in_tries = omega (arith, begins.left_is, first.tries, second.goes.tries, third.tries, last.goes.tries);
-  minimal = last.minimal;
-}
+      ends_alike = last.goes.ends_alike;
+      selects = subst (λ (items : List Item). IsSelection items d.items) begins.items_are all.selects;
+      in_tries = omega (arith, begins.left_is, first.tries, second.goes.tries, third.tries, last.goes.tries);
+      minimal = last.minimal;
+    }
 
 within_by : (b : Bool) (p : List (PlainItem ℕ)) (asked : Asked) (items : List Item) (count : ℕ)
     → MatchBool b (StopsBehind asked.properties.now (text_of p) items count) (count ≡ length items) → count ≤ length items
