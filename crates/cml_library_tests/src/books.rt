@@ -1,9 +1,9 @@
 //! A book over the plain table, by each call of the table.
 
+use crate::kept::KeptRows;
 use crate::making::{MEMORY, int, leaf};
 use crate::scans::EXCHANGE;
 use cml_book::Book;
-use cml_kept::KeptRows;
 use cml_scan::{Meet, Place, Table};
 use cml_value::{BaseKind, ChanId, Group, Tid};
 use std::process::Abort;

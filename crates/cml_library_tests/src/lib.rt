@@ -15,6 +15,7 @@ mod explorations;
 mod groups;
 #[cfg(test)]
 mod hubs;
+pub mod kept;
 #[cfg(test)]
 mod kinds;
 #[cfg(test)]

@@ -1,5 +1,5 @@
-use Rattle.cml_kept.proofs.KeptLemmas.{came_added}
-use Rattle.cml_kept.proofs.kept.changed.Goals as goal
+use Rattle.cml_library_tests.proofs.KeptLemmas.{came_added}
+use Rattle.cml_library_tests.proofs.kept.changed.Goals as goal
 
 pub returns-in_ok-push_kept-in-Some-2 : goal.returns-in_ok-push_kept-in-Some-2
 returns-in_ok-push_kept-in-Some-2 c =

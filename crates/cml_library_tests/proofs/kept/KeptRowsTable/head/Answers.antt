@@ -2,7 +2,7 @@ use Rattle.std.proofs.Common.{◌≡◌, ◌<◌, length, rules, refl}
 use Rattle.std.proofs.lemmas.Option.{slice_get_read}
 use Rattle.cml_scan.specs.Scan.{scan_of, heads_of}
 use Rattle.cml_scan.specs.Table.{has_light}
-use Rattle.cml_kept.proofs.kept.KeptRowsTable.head.Goals as goal
+use Rattle.cml_library_tests.proofs.kept.KeptRowsTable.head.Goals as goal
 
 pub index-requires : goal.index-requires
 index-requires c =

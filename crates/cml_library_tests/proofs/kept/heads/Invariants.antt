@@ -1,6 +1,6 @@
 use Rattle.std.proofs.Common.{◌≡◌, ◌++◌, drop, map}
 use Rattle.cml_scan.specs.Scan.{firsts_after, heads_of, place_of}
-use Rattle.cml_kept.proofs.kept.heads.Given as goal
+use Rattle.cml_library_tests.proofs.kept.heads.Given as goal
 
 -- the heads so far, and the new ones of the rows that are left, are the heads of all
 abbrev pub invariant-loop-row : goal.invariant-loop-row

@@ -1,7 +1,7 @@
 use Rattle.std.proofs.Common.{◌≡◌, ◌<◌, drop, length}
 use Rattle.std.specs.Prelude.{slice_get}
 use Rattle.cml_scan.specs.Scan.{partners_of}
-use Rattle.cml_kept.proofs.kept.partner_among.Given as goal
+use Rattle.cml_library_tests.proofs.kept.partner_among.Given as goal
 
 -- the row that is sought is the left-th of the partners to come
 abbrev pub invariant-loop-row : goal.invariant-loop-row

@@ -3,7 +3,7 @@
 ghost use Rattle.std.specs.{Prelude.{◌≡◌, ◌<◌, ◌++◌, [], false, length, slice_get, Some, IfOk, filter}, List.{list_any}};
 ghost use Rattle.cml_scan.specs.Scan as scan_spec;
 ghost use Rattle.cml_scan.specs.Table as table_spec;
-ghost use Rattle.cml_kept.specs.Kept as spec;
+ghost use Rattle.cml_library_tests.specs.Kept as spec;
 
 use cml_scan::{Light, Lights, Meet, Offer, Place, Table};
 use cml_value::{Group, Tid};
@@ -53,7 +53,7 @@ pub struct KeptRows {
 impl Model for KeptRows {
     ghost use Rattle.std.specs.Prelude.{◌≡◌};
     ghost use Rattle.cml_scan.specs.{Scan.{scan_of, heads_of}, Table.{has_light}};
-    ghost use Rattle.cml_kept.specs.Kept.{PlainTold, told_code};
+    ghost use Rattle.cml_library_tests.specs.Kept.{PlainTold, told_code};
 
     ghost Value = { PlainTold };
 

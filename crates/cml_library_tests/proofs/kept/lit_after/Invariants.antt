@@ -1,7 +1,7 @@
 use Rattle.std.proofs.Common.{◌≡◌, ◌++◌, drop}
 use Rattle.std.specs.List.{filter}
-use Rattle.cml_kept.specs.Kept.{is_untold}
-use Rattle.cml_kept.proofs.kept.lit_after.Given as goal
+use Rattle.cml_library_tests.specs.Kept.{is_untold}
+use Rattle.cml_library_tests.proofs.kept.lit_after.Given as goal
 
 -- what was put there, and what is left to be kept, are all that is kept
 abbrev pub invariant-loop-light : goal.invariant-loop-light

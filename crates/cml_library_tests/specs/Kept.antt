@@ -7,8 +7,8 @@ use Rattle.cml_scan.specs.Codes.{entry_code, light_code}
 use Rattle.cml_scan.specs.Scan.{is_among}
 use Rattle.cml_scan.specs.Table.{has_light}
 use Rattle.cml_scan.specs.declared.object.Light.{Light}
-use Rattle.cml_kept.specs.declared.kept.Side.{Side}
-use Rattle.cml_kept.specs.declared.kept.Side.TheVariants.{All, Below, Above}
+use Rattle.cml_library_tests.specs.declared.kept.Side.{Side}
+use Rattle.cml_library_tests.specs.declared.kept.Side.TheVariants.{All, Below, Above}
 
 -- the pending threads, ascending, each with its group, and the lights that are lit; any other is unlit
 pub record PlainTold : Type 0 where

@@ -9,9 +9,9 @@ use Rattle.cml_scan.specs.World.{PlainEntry}
 use Rattle.cml_scan.specs.Scan.{is_among}
 use Rattle.cml_scan.specs.Table.{without, with_entry, same_light, has_light, lit_after}
 use Rattle.cml_scan.specs.declared.object.Light.{Light}
-use Rattle.cml_kept.specs.declared.kept.Side.TheVariants.{Below, Above}
+use Rattle.cml_library_tests.specs.declared.kept.Side.TheVariants.{Below, Above}
 use Rattle.cml_scan.proofs.Telling.{same_light_is}
-use Rattle.cml_kept.specs.Kept.{kept_entries, is_untold}
+use Rattle.cml_library_tests.specs.Kept.{kept_entries, is_untold}
 
 filter_twice_at : {X : Type 0} (p q : X → Bool) (x : X) (xs : List X) (a b : Bool) → p x ≡ a → q x ≡ b → filter q (filter p xs) ≡ filter (λ y. p y && q y) xs
     → filter q (cond a (x ∷ filter p xs) (filter p xs)) ≡ cond (a && b) (x ∷ filter (λ y. p y && q y) xs) (filter (λ y. p y && q y) xs)

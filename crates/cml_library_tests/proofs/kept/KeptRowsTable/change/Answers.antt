@@ -1,7 +1,7 @@
 use Rattle.std.proofs.Common.{◌≡◌, ◌∙◌, ap}
-use Rattle.cml_kept.specs.Kept.{PlainTold}
-use Rattle.cml_kept.proofs.KeptLemmas.{has_light-after}
-use Rattle.cml_kept.proofs.kept.KeptRowsTable.change.Goals as goal
+use Rattle.cml_library_tests.specs.Kept.{PlainTold}
+use Rattle.cml_library_tests.proofs.KeptLemmas.{has_light-after}
+use Rattle.cml_library_tests.proofs.kept.KeptRowsTable.change.Goals as goal
 
 pub returns-clause-ok_lit : goal.returns-clause-ok_lit
 returns-clause-ok_lit c = λ l.
