@@ -1,9 +1,9 @@
 -- Lists with items left out are selections.
 use Rattle.std.proofs.Common.{◌≡◌, ◌∙◌, ℕ, zero, suc, ◌+◌, ◌-◌, ◌<◌, ◌≤◌, List, [], ◌∷◌, ◌++◌, length, take, drop, not, filter, remove, get_or}
 use Rattle.std.proofs.Common.{refl, sym, ap, subst, arith, append_assoc, append-nil, take-append-drop, length-append}
-use Rattle.std.specs.Prelude.{Some, slice_get, slice_range, IsPermutation, Vec, Result, Ok, Err, IfOk}
+use Rattle.std.specs.Prelude.{Some, None, slice_get, slice_range, IsPermutation, Vec, Result, Ok, Err, IfOk}
 use Rattle.std.specs.declared.alloc.Global.{Global}
-use Rattle.core.proofs.slice.Prefixes.{drop_more}
+use Rattle.std.proofs.lemmas.List.{drop_more}
 use Rattle.std.proofs.lemmas.List.Sorted.{IsPermutation-refl, IsPermutation-trans, IsPermutation-append_left, IsPermutation-append_right, IsPermutation-append_comm}
 use Rattle.std.proofs.lemmas.List.Sorted.{IsPermutation-middle, IsPermutation-remove, IsPermutation-filter_both, length_permutation}
 use Rattle.cml_schedule.specs.declared.item.Item.{Item}
@@ -39,14 +39,16 @@ drop_none zero = refl
 drop_none (suc n) = refl
 
 drop_on : (i k : ℕ) (xs : List Item) → drop k (drop i xs) ≡ drop (i + k) xs
-drop_on zero k xs = ap (λ n. drop n xs) (omega arith)
+drop_on zero k [] = let e : k ≡ 0 + k = omega arith in let none : List Item = [] in ap (λ n. drop n none) e
+drop_on zero k (x ∷ xs) = let e : k ≡ 0 + k = omega arith in ap (λ n. drop n (x ∷ xs)) e
 drop_on (suc i) k [] = drop_none k ∙ sym (drop_none (suc i + k))
-drop_on (suc i) k (x ∷ xs) = drop_on i k xs ∙ ap (λ n. drop n (x ∷ xs)) (let e : suc (i + k) ≡ suc i + k = omega arith in e)
+drop_on (suc i) k (x ∷ xs) = let e : suc (i + k) ≡ suc i + k = omega arith in drop_on i k xs ∙ ap (λ n. drop n (x ∷ xs)) e
 
 -- all of them: those before, those between, and those behind
 in_three : (xs : List Item) (i j : ℕ) → i ≤ j → take i xs ++ (slice_range xs i j ++ drop j xs) ≡ xs
 in_three xs i j le =
-    let behind : drop (j - i) (drop i xs) ≡ drop j xs = drop_on i (j - i) xs ∙ ap (λ n. drop n xs) (omega arith) in
+    let e : i + (j - i) ≡ j = omega arith in
+    let behind : drop (j - i) (drop i xs) ≡ drop j xs = drop_on i (j - i) xs ∙ ap (λ n. drop n xs) e in
     ap (λ ys. take i xs ++ (slice_range xs i j ++ ys)) (sym behind)
     ∙ (ap (λ ys. take i xs ++ ys) (take-append-drop (j - i) (drop i xs)) ∙ take-append-drop i xs)
 
@@ -56,8 +58,8 @@ range_selects xs ys i j le is =
     (subst (IsSelection (take i xs ++ (slice_range xs i j ++ drop j xs))) (sym is) (between_selects (take i xs) (slice_range xs i j) (drop j xs)))
 
 item_is : (xs : List Item) (n : ℕ) (x : Item) → slice_get xs n ≡ Some x → x ≡ get_or xs n x
-item_is [] n x there = cc
-item_is (y ∷ xs) zero x there = cc
+item_is [] n x there = absurd (let h : None ≡ Some x = there in cc)
+item_is (y ∷ xs) zero x there = let h : Some y ≡ Some x = there in let e : x ≡ y = cc in e
 item_is (y ∷ xs) (suc n) x there = item_is xs n x there
 
 pub moved_selects : (xs ys : List Item) (x : Item) (from to : ℕ) → to ≤ from → from < length xs → slice_get xs from ≡ Some x

@@ -23,8 +23,8 @@ abbrev pub IsMinimal : List (PlainItem ℕ) → Asked → List Detail → List I
 IsMinimal p asked details items = (i : ℕ) → i < length items → IsNeeded p asked details items i
 
 -- The schedule of this program that was found for the given items, or, where it is to stop, for those up to where their run stops: it can be followed
--- from the start and ends as they do, its items are a selection of theirs, so that it is not longer, and no item of it can be left out by itself, nor one thread's items from some
--- point on, unless all tries were used.
+-- from the start and ends as they do; its items are a selection of theirs, so that it is not longer than they are; and no item of it can be left out
+-- by itself, nor one thread's items from some point on, unless all tries were used.
 pub record IsShrunk (p : List (PlainItem ℕ)) (asked : Asked) (given : List Item) (found : PlainShrunk) : Type 0 where
   pub count : ℕ
   pub given_are : IsGiven p asked given count
