@@ -1,4 +1,4 @@
-//! Why a file can't be read or written: the reasons, in the words of the system, and the line that says one of them.
+//! Why a file can't be read or written: the reasons, most in the words of the system, and the line that says one of them.
 
 ghost use Rattle.std.specs.Prelude.{IfOk};
 ghost use Rattle.cml_host.specs.Refused.{IsExplained};
@@ -30,10 +30,12 @@ pub enum Reason {
     TooLarge,
     /// It is a program that runs.
     Busy,
+    /// It holds what the script holds.
+    Script,
 }
 
 impl Reason {
-    /// The reason in the words of the system.
+    /// The reason, in the words of the system where it has any.
     pub fn words(self) -> &'static str {
         match self {
             Reason::NotFound => "No such file or directory",
@@ -47,6 +49,7 @@ impl Reason {
             Reason::Quota => "Disk quota exceeded",
             Reason::TooLarge => "File too large",
             Reason::Busy => "Text file busy",
+            Reason::Script => "It holds the script",
         }
     }
 }
