@@ -2,7 +2,7 @@
 #![tactic(auto)]
 
 use cml_stream::Counting;
-use cml_system::run_on_system;
+use cml_system::{run_on_system, words};
 use std::io;
 use std::io::IsTerminal;
 use std::process::ExitCode;
@@ -12,6 +12,7 @@ fn main(rt: HostRuntime) -> io::Result<ExitCode> {
     let terminal = errors.is_terminal();
     let status = run_on_system(
         &rt,
+        words(&rt),
         &mut Counting::new(&mut input),
         &mut Counting::new(&mut output),
         &mut Counting::new(&mut errors),

@@ -6,7 +6,8 @@ pub mod memory;
 mod reason;
 mod saving;
 
-ghost use Rattle.std.specs.Prelude.{◌≡◌, ◌≤◌, IfOk, OnErr};
+ghost use Rattle.std.specs.Prelude.{◌≡◌, ◌≤◌, IfOk, OnOk, OnErr, map, option_map};
+ghost use Rattle.std.specs.{Result.{result_ok}, String.{string_bytes}};
 ghost use Rattle.cml_host.specs.{Between.{between}, Statuses.{Surroundings}};
 ghost use Rattle.cml_system.specs.Systems.{RanOnSystem, NothingCalled, files};
 ghost use Rattle.cml_trace.specs.Live.{max_turns};
@@ -20,26 +21,30 @@ use std::sync::Wait;
 use std::thread::Threads;
 use std::{env, io};
 
-// The arguments of the command line, the program's name first.
-fn words(rt: &(impl AllocGlobal + Env)) -> io::Result<Vec<String>> {
+/// The words of the command line, the program's name first.
+///
+/// # Errors
+/// A word that is not text; or out of memory.
+pub fn words(rt: &(impl AllocGlobal + Env)) -> io::Result<Vec<String>> {
     Ok(env::args(rt)?.collect(rt.alloc())?)
 }
 
-/// Runs the command that the arguments of the command line name, over the files of the system, and returns the status of the process. None
-/// of the streams was called yet. Where there is no memory for the arguments, the status is 5, and `memory` is written to the errors. The
-/// caller says whether the errors go to a terminal.
+/// Runs the command that these words name, which were read of the command line, the program's name first, over the files of the system. It
+/// returns the status of the process. None of the streams was called yet. Where there was no memory for the words, the status is 5, and
+/// `memory` is written to the errors. The caller says whether the errors go to a terminal.
 ///
 /// # Errors
-/// Arguments that are not text. No stream is called then.
+/// Words that are not text. No stream is called then.
 pub fn run_on_system<R, I, O, E>(
     rt: &R,
+    words: io::Result<Vec<String>>,
     input: &mut Counting<'_, I>,
     out: &mut Counting<'_, O>,
     err: &mut Counting<'_, E>,
     terminal: bool,
 ) -> io::Result<u8>
 where
-    R: AllocGlobal + Env + Files + Threads + Wait + Sync,
+    R: AllocGlobal + Files + Threads + Wait + Sync,
     I: Read,
     O: Write,
     E: Write + Send,
@@ -53,7 +58,7 @@ where
       terminal = terminal;
       store = files;
     } in
-        IfOk result (RanOnSystem around) }
+        IfOk result (RanOnSystem (option_map (λ all. map string_bytes all.items) (result_ok words)) around) }
     ensures left { let around : Surroundings = record {
       input = between I.remaining input.old input.new;
       output = between O.contents out.old out.new;
@@ -62,10 +67,11 @@ where
       store = files;
     } in
         OnErr result (NothingCalled around) }
+    ensures read { OnErr result (OnOk words ⊥) }
     ensures most { input.new.calls ≤ max_turns }
 {
     let alloc = rt.alloc();
-    match words(rt) {
+    match words {
         Ok(words) => Ok(run_command_counted(
             rt,
             alloc,
