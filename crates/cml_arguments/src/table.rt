@@ -181,7 +181,6 @@ fn explore<'a>(alloc: Global) -> Made<'a>
     let command = with_arg(command, steps);
     let command = with_arg(command, workers);
     let command = with_arg(command, picks);
-    let command = with_arg(command, json(alloc));
     let command = finding(alloc, ordering(alloc, command));
     printing_alike(alloc, holding(alloc, command))
 }
@@ -226,10 +225,7 @@ fn verify<'a>(alloc: Global) -> Made<'a>
     let endless = flag_of(alloc, "endless").help("It is no mistake that a schedule never ends");
     let command = with_arg(command, outcomes);
     let command = with_arg(command, endless);
-    with_arg(
-        with_arg(with_arg(command, save), servers(alloc)),
-        json(alloc),
-    )
+    with_arg(with_arg(command, save), servers(alloc))
 }
 
 // The command that looks for a shorter schedule.
@@ -344,13 +340,6 @@ fn file<'a>(alloc: Global, name: &'a str) -> Arg<'a>
     ensures { FollowsRule (file_rule name.now) result }
 {
     Arg::new(alloc, name).required(true).action(ArgAction::Set)
-}
-
-// The flag by which a command tells what it found to programs.
-fn json<'a>(alloc: Global) -> Arg<'a>
-    ensures { FollowsRule (flag_rule (codes "json")) result }
-{
-    flag_of(alloc, "json").help("Writes what is told as one object of JSON")
 }
 
 // A flag.
