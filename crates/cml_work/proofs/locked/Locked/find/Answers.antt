@@ -13,8 +13,8 @@ invariant_of-self g c =
       follows_on _ _ _ c.self.invariant.0 c.take_job-answer.ensures.goes_on,
       c.self.invariant.1,
       begins_trans _ _ _ c.take_job-answer.ensures.reports c.self.invariant.2,
-      chose c.take_job-answer.result c.is_err-self-inside.result (record { picks = g.C.Chooser.picks; next = g.C.Chooser.next }) s.chooser c.take_job-answer.new.chooser g.O.Opening.opening g.O.Opening.picks s.hub c.take_job-answer.new.hub
-          c.is_err-self-inside.ensures (subst (λ b. ChoosesBy g.O.Opening.opening g.O.Opening.picks s.hub (picker (record { picks = g.C.Chooser.picks; next = g.C.Chooser.next }) s.chooser) b) c.if-self.false c.self.invariant.3)
+      chose c.take_job-answer.result c.is_err.result (record { picks = g.C.Chooser.picks; next = g.C.Chooser.next }) s.chooser c.take_job-answer.new.chooser g.O.Opening.opening g.O.Opening.picks s.hub c.take_job-answer.new.hub
+          c.is_err.ensures (subst (λ b. ChoosesBy g.O.Opening.opening g.O.Opening.picks s.hub (picker (record { picks = g.C.Chooser.picks; next = g.C.Chooser.next }) s.chooser) b) c.if-self-is_stopped.false c.self.invariant.3)
           c.take_job-answer.ensures.goes_on.program c.take_job-answer.ensures.picks c.take_job-answer.ensures.some,
     )
 
