@@ -71,7 +71,6 @@ taken_itself o picks h is = record {
 
 pub chooses_itself : {C : Type 0} (rules : Rules C) (c : C) (o : PlainOpening) (picks : Picker) (h : Kept) → opening_of h ≡ o → picks ≡ picker rules c
     → ChoosesBy o picks h (picker rules c) false
-unfolding taken_itself
 chooses_itself rules c o picks h is at = record { taken = taken_itself o picks h is; left = λ going. sym at }
 
 -- what the chooser picked was taken
@@ -92,7 +91,6 @@ more_taken rules c o picks mid new t left same k = record {
 pub chose : {A E C : Type 0} (r : Result A E) (b : Bool) (rules : Rules C) (c last : C) (o : PlainOpening) (picks : Picker) (mid new : Kept) → b ≡ is_err r
     → ChoosesBy o picks mid (picker rules c) false → new.course.program ≡ mid.course.program → OnOk r (PicksOn rules mid c new last) → OnErr r (PicksSome rules mid c new)
     → ChoosesBy o picks new (picker rules last) b
-unfolding more_taken
 chose (Ok x) b rules c last o picks mid new is h same ok err =
     let left = h.left refl in
     record {
