@@ -5,6 +5,5 @@ mod Handing
 mod HubCrossing
 mod Leaving
 mod MarkSteps
-mod Picking
 mod Sending
 mod Writing

@@ -1,7 +1,7 @@
 //! What a run of workers begins with.
 
 ghost use Rattle.atomic_table.specs.Seated.{TableId};
-ghost use Rattle.cml_work.specs.{Picks.{Picker}, Works.{PlainOpening}};
+ghost use Rattle.cml_work.specs.Works.{PlainOpening};
 
 use std::marker::Brand;
 
@@ -13,9 +13,6 @@ pub trait Opening {
 
     /// The board by which its reports are told.
     ghost board: { TableId };
-
-    /// What its chooser picks.
-    ghost picks: { Picker };
 }
 
 impl Opening for Brand {
@@ -25,6 +22,4 @@ impl Opening for Brand {
     ghost opening = { record { program = []; budget = 0; watch = None; items = [] } };
 
     ghost board = { no_board };
-
-    ghost picks = { λ k rows. None };
 }

@@ -2,7 +2,7 @@
 
 ghost use Rattle.std.specs.Prelude.{◌≡◌, [], Some, IfOk, IfSome, slice_get};
 ghost use Rattle.cml_hub.specs.Dones.{GoesOn};
-ghost use Rattle.cml_work.specs.{Marks.{BeginsWith, IsKeeper, WasShown, shown_of}, Picks.{ChoosesBy, picker}, Works.{OpenedBy, opening_of}};
+ghost use Rattle.cml_work.specs.{Marks.{BeginsWith, IsKeeper, WasShown, shown_of}, Works.{OpenedBy, opening_of}};
 
 use crate::desk::{Desk, refused};
 use crate::locked::{Found, Locked, Told};
@@ -35,7 +35,6 @@ impl<O: Opening, C: Chooser + Drop> Shared<O, C> {
         requires hub { opening_of hub ≡ O.opening }
         requires board { board.table.shared.table_id ≡ O.board }
         requires keeper { IsKeeper O.board [] keeper }
-        requires picks { O.picks ≡ picker (record { picks = C.picks; next = C.next }) chooser }
     {
         Shared {
             locked: Mutex::new(Locked::new(hub, chooser, keeper)),
@@ -47,8 +46,7 @@ impl<O: Opening, C: Chooser + Drop> Shared<O, C> {
 
     // The hub, the chooser, and whether the workers were stopped.
     pub(crate) fn into_parts(self) -> (Hub, C, bool)
-        ensures follows { OpenedBy O.opening result.0 }
-        ensures chooses { ChoosesBy O.opening O.picks result.0 (picker (record { picks = C.picks; next = C.next }) result.1) result.2 }
+        ensures { OpenedBy O.opening result.0 }
     {
         let Shared {
             locked,
@@ -64,7 +62,6 @@ impl<O: Opening, C: Chooser + Drop> Shared<O, C> {
         requires { WasShown O.board (shown_of mark) mark }
         ensures follows { OpenedBy O.opening result.0 }
         ensures shown { BeginsWith result.0.reports (shown_of mark) }
-        ensures chooses { ChoosesBy O.opening O.picks result.0 (picker (record { picks = C.picks; next = C.next }) result.1) result.2 }
     {
         let Shared {
             locked,
@@ -172,8 +169,6 @@ impl<O: Opening, C: Chooser + Drop> Desk for Shared<O, C> {
     ghost hands = { λ shared program machine. (program ≡ O.opening.program) × GoesOn program machine };
 
     // No fact that lasts shows what was said under the lock: it is said where the lock's value is lent.
-    ghost back = { λ shared machine. Unit {0} };
-
     ghost over = { λ shared. Unit {0} };
 
     ghost lacks = { λ shared. Unit {0} };
