@@ -24,4 +24,3 @@ mod OutcomeLemmas
 mod FoundLemmas
 mod VerifyLemmas
 mod LawLemmas
-mod OnwardLemmas

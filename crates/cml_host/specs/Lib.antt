@@ -25,4 +25,3 @@ pub mod Shrunk
 pub mod Stepped
 pub mod Statuses
 pub mod Laws
-pub mod Onward
