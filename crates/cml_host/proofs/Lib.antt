@@ -24,3 +24,4 @@ mod OutcomeLemmas
 mod FoundLemmas
 mod VerifyLemmas
 mod LawLemmas
+mod OnwardLemmas

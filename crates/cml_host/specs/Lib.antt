@@ -25,3 +25,4 @@ pub mod Shrunk
 pub mod Stepped
 pub mod Statuses
 pub mod Laws
+pub mod Onward
