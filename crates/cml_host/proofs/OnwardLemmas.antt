@@ -208,8 +208,8 @@ class_at P (x ∷ cs) (suc n) c there all = class_at P cs n c there (All-tail P 
 
 pub saved_is : KeepsItsOwn → SavedIsOfItsClass
 saved_is own p asked made start budget place number c explored there = (
-  ap (λ (o : Option PlainClass). schedule_text budget (size_of p) (option_map_or (λ x. x.summary.shortest) o [])) there,
-  class_at (λ x. IsOneOfClass p asked made.runs x.details x.summary.shortest) made.classes number c there (own p asked made explored),
+  ap (λ (o : Option PlainClass). schedule_text budget (size_of p) (option_map_or (λ (x : PlainClass). x.summary.shortest) o [])) there,
+  class_at (λ (x : PlainClass). IsOneOfClass p asked made.runs x.details x.summary.shortest) made.classes number c there (own p asked made explored),
 )
 
 pub ends_alike : ShorterEndsAlike
