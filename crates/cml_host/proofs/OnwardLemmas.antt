@@ -1,7 +1,8 @@
 -- What one command writes, another takes.
 use Rattle.std.proofs.Common.{◌≡◌, ◌∙◌, ℕ, zero, suc, ◌+◌, ◌<◌, ◌≤◌, Bool, true, false, List, [], ◌∷◌, ◌++◌, length, take, drop, Option, Some, None, Ok, Err}
 use Rattle.std.proofs.Common.{ap, sym, subst, refl, inl, inr, arith, append_assoc, take-append-drop}
-use Rattle.std.specs.Prelude.{◌⊎◌, Result, Contains, slice_get, option_and_then, option_map_or}
+use Rattle.std.specs.Prelude.{◌⊎◌, Result, Contains, slice_get, option_and_then}
+use Rattle.std.specs.Option.{option_map_or}
 use Rattle.std.specs.List.{All}
 use Rattle.std.proofs.Math.Seq.{take-length}
 use Rattle.std.proofs.lemmas.List.Elements.{All-head, All-tail}
@@ -213,6 +214,6 @@ saved_is own p asked made start budget place number c explored there = (
 )
 
 pub ends_alike : ShorterEndsAlike
-ends_alike p asked plan text (found, is, same) =
+ends_alike p asked given written (found, is, same) =
     let end = is.ends_alike.1 in
     (found.items, run_of end.hub.course, same, end.leads, (is.count, is.details, is.given_are, is.ended, is.ends_alike))
