@@ -18,15 +18,14 @@ use Rattle.cml_hub.specs.Courses.{PlainCourse, run_of}
 use Rattle.cml_hub.specs.Deeds.{origins, fault_count}
 use Rattle.cml_hub.specs.Kept.{Kept}
 use Rattle.cml_hub.specs.Runs.{ending}
-use Rattle.cml_facts.specs.declared.ending.standing.Spot.{Spot}
-use Rattle.cml_facts.specs.Standings.{call_of_machine, spot_at}
+use Rattle.cml_facts.specs.Standings.{call_of_machine}
 use Rattle.cml_facts.specs.Stuck.{is_quiet, is_server, is_held_up, some_held_up}
 use Rattle.cml_facts.specs.Falls.{PlainFall}
 use Rattle.cml_facts.specs.declared.fault.detail.Detail.{Detail}
 use Rattle.cml_facts.specs.declared.fault.detail.Detail.TheVariants as detail
 use Rattle.cml_facts.specs.contracts.fault.detail.DetailEq.TheImpl.Laws.{laws-law}
 use Rattle.cml_facts.specs.Details.{AreDetails, alike, ask_detail, began_details, call_details, details_with, end_detail, fall_details, kind_detail, same_detail, standing_details}
-use Rattle.cml_facts.specs.Details.{spot_details, statement_details, thread_details, threads_details}
+use Rattle.cml_facts.specs.Details.{thread_details, threads_details}
 use Rattle.cml_judge.specs.Judgements.{break_details, are_all_kept}
 use Rattle.cml_explore.specs.Classes.{Finish}
 use Rattle.cml_explore.specs.Finishes.{fate_of, is_good}
@@ -122,14 +121,6 @@ no_wait_call (Some (call f at slots w)) = refl
 no_wait_call (Some (force g asked)) = refl
 no_wait_call (Some (wraps left v)) = refl
 
-no_wait_statement : (o : Option ℕ) → list_any waits (statement_details o) ≡ false
-no_wait_statement None = refl
-no_wait_statement (Some n) = refl
-
-no_wait_spot : (o : Option Spot) → list_any waits (spot_details o) ≡ false
-no_wait_spot None = refl
-no_wait_spot (Some spot) = no_wait_statement spot.statement
-
 no_wait_kind : (b : PlainBase) → waits (kind_detail b) ≡ false
 no_wait_kind (always v) = refl
 no_wait_kind (send c v) = refl
@@ -165,12 +156,10 @@ no_wait_ask (ask.mput m v) = refl
 no_wait_ask (ask.sync g) = refl
 no_wait_ask a = refl
 
-no_wait_standing : (c : PlainCourse) (spots : List (Option Spot)) (t : ℕ) → list_any waits (standing_details c spots t) ≡ false
-no_wait_standing c spots t =
-    let at = option_and_then call_of_machine (slice_get c.machines t) in
-    neither (began_details (slice_get (origins (text_of c.program) c.items) t)) (call_details at ++ spot_details (spot_at spots t))
-    (no_wait_began (slice_get (origins (text_of c.program) c.items) t))
-    (neither (call_details at) (spot_details (spot_at spots t)) (no_wait_call at) (no_wait_spot (spot_at spots t)))
+no_wait_standing : (c : PlainCourse) (t : ℕ) → list_any waits (standing_details c t) ≡ false
+no_wait_standing c t =
+    neither (began_details (slice_get (origins (text_of c.program) c.items) t)) (call_details (option_and_then call_of_machine (slice_get c.machines t)))
+    (no_wait_began (slice_get (origins (text_of c.program) c.items) t)) (no_wait_call (option_and_then call_of_machine (slice_get c.machines t)))
 
 no_wait_fall : (c : PlainCourse) (t : ℕ) (o : Option PlainFall) → list_any waits (fall_details c t o) ≡ false
 no_wait_fall c t None = refl
@@ -211,21 +200,6 @@ call_first servers (Some (call f at slots w)) rest none = any_false servers
 call_first servers (Some (force g asked)) rest none = none
 call_first servers (Some (wraps left v)) rest none = none
 
-statement_first : (servers : List ℕ) (o : Option ℕ) (rest : List Detail) → serves_first servers rest ≡ false → serves_first servers (statement_details o ++ rest) ≡ false
-statement_first servers None rest none = none
-statement_first servers (Some n) rest none = any_false servers
-
-spot_first : (servers : List ℕ) (o : Option Spot) (rest : List Detail) → serves_first servers rest ≡ false → serves_first servers (spot_details o ++ rest) ≡ false
-spot_first servers None rest none = none
-spot_first servers (Some spot) rest none = statement_first servers spot.statement rest none
-
--- where a call is, and the statement there
-place_first : (servers : List ℕ) (o : Option PlainHeld) (spot : Option Spot) (rest : List Detail) → serves_first servers rest ≡ false
-    → serves_first servers ((call_details o ++ spot_details spot) ++ rest) ≡ false
-place_first servers o spot rest none =
-    ap (serves_first servers) (append_assoc (call_details o) (spot_details spot) rest)
-    ∙ call_first servers o (spot_details spot ++ rest) (spot_first servers spot rest none)
-
 tests_same : (a b : Bool) (m n : ℕ) → nat_eq m n ≡ a → (n == m) ≡ b → a ≡ b
 tests_same true true m n one other = refl
 tests_same false false m n one other = refl
@@ -241,17 +215,17 @@ began_first : (servers : List ℕ) (o : Option PlainFunction) (rest : List Detai
 began_first servers None rest none = none
 began_first servers (Some f) rest none = server_by servers (func_of f)
 
-module _ (servers : List ℕ) (c : PlainCourse) (falls : ℕ → Option PlainFall) (spots : List (Option Spot)) (n : ℕ) where
+module _ (servers : List ℕ) (c : PlainCourse) (falls : ℕ → Option PlainFall) (n : ℕ) where
   abbrev began : List PlainFunction
   began = origins (text_of c.program) c.items
 
   -- the details of these threads, and how many faults there are
   abbrev behind : ℕ → List PlainThread → List Detail
-  behind t threads = threads_details c falls spots t threads ++ detail.Faults n ∷ []
+  behind t threads = threads_details c falls t threads ++ detail.Faults n ∷ []
 
   -- those of one thread, and of the ones behind it
-  split : (t : ℕ) (thread : PlainThread) (threads : List PlainThread) → behind t (thread ∷ threads) ≡ thread_details c falls spots t thread ++ behind (suc t) threads
-  split t thread threads = append_assoc (thread_details c falls spots t thread) (threads_details c falls spots (suc t) threads) (detail.Faults n ∷ [])
+  split : (t : ℕ) (thread : PlainThread) (threads : List PlainThread) → behind t (thread ∷ threads) ≡ thread_details c falls t thread ++ behind (suc t) threads
+  split t thread threads = append_assoc (thread_details c falls t thread) (threads_details c falls (suc t) threads) (detail.Faults n ∷ [])
 
   fall_first : (t : ℕ) (o : Option PlainFall) (rest : List Detail) → serves_first servers rest ≡ false → serves_first servers (fall_details c t o ++ rest) ≡ false
   fall_first t None rest none = none
@@ -266,26 +240,24 @@ module _ (servers : List ℕ) (c : PlainCourse) (falls : ℕ → Option PlainFal
 
   -- what is said behind that a thread waits
   waiting_first : (t : ℕ) (bs : List PlainBase) (rest : List Detail) → serves_first servers rest ≡ false
-      → serves_first servers ((standing_details c spots t ++ map kind_detail bs) ++ rest) ≡ is_server servers (slice_get began t)
+      → serves_first servers ((standing_details c t ++ map kind_detail bs) ++ rest) ≡ is_server servers (slice_get began t)
   waiting_first t bs rest none =
       let first = began_details (slice_get began t) in
-      let at = option_and_then call_of_machine (slice_get c.machines t) in
-      let place = call_details at ++ spot_details (spot_at spots t) in
+      let place = call_details (option_and_then call_of_machine (slice_get c.machines t)) in
       let kinds = map kind_detail bs in
       let parts : ((first ++ place) ++ kinds) ++ rest ≡ first ++ (place ++ (kinds ++ rest)) =
       append_assoc (first ++ place) kinds rest ∙ append_assoc first place (kinds ++ rest) in
       ap (serves_first servers) parts
       ∙ began_first servers (slice_get began t) (place ++ (kinds ++ rest))
-      (place_first servers at (spot_at spots t) (kinds ++ rest) (kinds_first servers bs rest none))
+      (call_first servers (option_and_then call_of_machine (slice_get c.machines t)) (kinds ++ rest) (kinds_first servers bs rest none))
 
   one_held : (t : ℕ) (thread : PlainThread) (rest : List Detail) → serves_first servers rest ≡ false
-      → held servers (thread_details c falls spots t thread ++ rest) ≡ is_held_up servers (slice_get began t) thread || held servers rest
-  one_held t running rest none = skips servers (standing_details c spots t) rest (no_wait_standing c spots t)
+      → held servers (thread_details c falls t thread ++ rest) ≡ is_held_up servers (slice_get began t) thread || held servers rest
+  one_held t running rest none = skips servers (standing_details c t) rest (no_wait_standing c t)
   one_held t (pending_on g) rest none =
       let kinds = map kind_detail (bases g) in
       ap₂ (λ a b. not a || b) (waiting_first t (bases g) rest none)
-      (skips servers (standing_details c spots t ++ kinds) rest
-      (neither (standing_details c spots t) kinds (no_wait_standing c spots t) (no_wait_kinds (bases g))))
+      (skips servers (standing_details c t ++ kinds) rest (neither (standing_details c t) kinds (no_wait_standing c t) (no_wait_kinds (bases g))))
   one_held t ended rest none = skips servers (fall_details c t (falls t)) rest (no_wait_fall c t (falls t))
 
   all_held : (t : ℕ) (threads : List PlainThread) → held servers (behind t threads) ≡ some_held_up servers began t threads
@@ -358,21 +330,20 @@ abbrev faults_of : Kept → ℕ
 faults_of h = fault_count (text_of h.course.program) h.course.items
 
 -- the details of a run, and behind them those of the properties that it breaks
-with_breaks : (h : Kept) (falls : ℕ → Option PlainFall) (spots : List (Option Spot)) (own : List Detail) (judged : List (Option ℕ)) (all : List Detail)
-    → own ≡ details_with h falls spots
+with_breaks : (h : Kept) (falls : ℕ → Option PlainFall) (own : List Detail) (judged : List (Option ℕ)) (all : List Detail) → own ≡ details_with h falls
     → all ≡ own ++ break_details 0 judged
-    → all ≡ end_detail (ending h.budget (run_of h.course)) ∷ (threads_details h.course falls spots 0 h.course.world.threads ++ detail.Faults (faults_of h) ∷ break_details 0 judged)
-with_breaks h falls spots own judged all own_is all_is =
+    → all ≡ end_detail (ending h.budget (run_of h.course)) ∷ (threads_details h.course falls 0 h.course.world.threads ++ detail.Faults (faults_of h) ∷ break_details 0 judged)
+with_breaks h falls own judged all own_is all_is =
     all_is ∙ (ap (λ (ds : List Detail). ds ++ break_details 0 judged) own_is
     ∙ ap (λ (ds : List Detail). end_detail (ending h.budget (run_of h.course)) ∷ ds)
-    (append_assoc (threads_details h.course falls spots 0 h.course.world.threads) (detail.Faults (faults_of h) ∷ []) (break_details 0 judged)))
+    (append_assoc (threads_details h.course falls 0 h.course.world.threads) (detail.Faults (faults_of h) ∷ []) (break_details 0 judged)))
 
-module _ (servers : List ℕ) (one other : Kept) (f g : ℕ → Option PlainFall) (r s : List (Option Spot)) (j k : List (Option ℕ)) where
+module _ (servers : List ℕ) (one other : Kept) (f g : ℕ → Option PlainFall) (j k : List (Option ℕ)) where
   abbrev left : List Detail
-  left = threads_details one.course f r 0 one.course.world.threads
+  left = threads_details one.course f 0 one.course.world.threads
 
   abbrev right : List Detail
-  right = threads_details other.course g s 0 other.course.world.threads
+  right = threads_details other.course g 0 other.course.world.threads
 
   abbrev first_end : End
   first_end = ending one.budget (run_of one.course)
@@ -389,9 +360,9 @@ module _ (servers : List ℕ) (one other : Kept) (f g : ℕ → Option PlainFall
       (alike (left ++ detail.Faults (faults_of one) ∷ break_details 0 j) (right ++ detail.Faults (faults_of other) ∷ break_details 0 k)) whole in
       let apart = parts_alike j k left right (faults_of one) (faults_of other) parts.1 in
       good_same _ _ _ _ _ _ _ _ (ends_same first_end second_end parts.0)
-      (sym (all_held servers one.course f r (faults_of one) 0 one.course.world.threads)
+      (sym (all_held servers one.course f (faults_of one) 0 one.course.world.threads)
       ∙ (held_same servers (left ++ detail.Faults (faults_of one) ∷ []) (right ++ detail.Faults (faults_of other) ∷ []) apart.0
-      ∙ all_held servers other.course g s (faults_of other) 0 other.course.world.threads))
+      ∙ all_held servers other.course g (faults_of other) 0 other.course.world.threads))
       (counts_same (faults_of one) (faults_of other) (last_same left right (detail.Faults (faults_of one)) (detail.Faults (faults_of other)) apart.0))
       (kept_bare 0 j ∙ (bare_same (break_details 0 j) (break_details 0 k) apart.1 ∙ sym (kept_bare 0 k)))
 
@@ -400,11 +371,9 @@ along a b c d e f same = subst (λ (xs : List Detail). alike xs d ≡ true) e (s
 
 pub judged_alike : JudgedAlike
 judged_alike servers wanted one other d e of_one of_other same =
-    let first_own = of_one.own_are in
-    let second_own = of_other.own_are in
-    let first = with_breaks one first_own.falls first_own.spots of_one.own of_one.judged d.finish.details first_own.details_are (ap (λ (f : Finish). f.details) of_one.finish_is) in
-    let second = with_breaks other second_own.falls second_own.spots of_other.own of_other.judged e.finish.details second_own.details_are (ap (λ (f : Finish). f.details) of_other.finish_is) in
+    let first = with_breaks one of_one.own_are.falls of_one.own of_one.judged d.finish.details of_one.own_are.details_are (ap (λ (f : Finish). f.details) of_one.finish_is) in
+    let second = with_breaks other of_other.own_are.falls of_other.own of_other.judged e.finish.details of_other.own_are.details_are (ap (λ (f : Finish). f.details) of_other.finish_is) in
     ap is_good of_one.fate_is
-    ∙ (fates_alike servers one other first_own.falls second_own.falls first_own.spots second_own.spots of_one.judged of_other.judged
+    ∙ (fates_alike servers one other of_one.own_are.falls of_other.own_are.falls of_one.judged of_other.judged
     (along _ _ _ _ first second same)
     ∙ sym (ap is_good of_other.fate_is))

@@ -52,7 +52,6 @@ same_self detail.Full = refl
 same_self (detail.Began n) = eq_self n
 same_self (detail.In n) = eq_self n
 same_self (detail.At n) = eq_self n
-same_self (detail.Stands n) = eq_self n
 same_self (detail.Faults n) = eq_self n
 same_self (detail.Breaks n) = eq_self n
 

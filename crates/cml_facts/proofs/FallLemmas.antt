@@ -15,8 +15,6 @@ use Rattle.cml_facts.proofs.FailureLemmas.{counted}
 use Rattle.std.specs.declared.alloc.Global.{Global}
 use Rattle.cml_hub.specs.Kept.{Kept}
 use Rattle.cml_facts.specs.declared.fault.detail.Detail.{Detail}
-use Rattle.cml_facts.specs.declared.ending.standing.Spot.{Spot}
-use Rattle.cml_facts.specs.Standings.{AreSpots}
 use Rattle.cml_facts.specs.Details.{details_with, AreDetails, fallen_details, AreFallenDetails}
 use Rattle.cml_facts.specs.Falls.{PlainFall, failure_if_of, failure_of_thread, IsFall, IsFallOf, AreFalls}
 
@@ -79,11 +77,10 @@ more_fallen (Ok x) c item q m fall u old kept fails same own fell keeps = λ are
 more_fallen (Err y) c item q m fall u old kept fails same own fell keeps = tt
 
 -- the details of a run, if memory was enough
-pub details_so : {E : Type 0} (r : Result (Vec Detail Global) E) (h : Kept) (falls : ℕ → Option PlainFall) (spots : List (Option Spot)) → AreFalls h.course.program h.course.items falls
-    → AreSpots h.course spots → IfOk r (λ ds. ds.items ≡ details_with h falls spots) → IfOk r (λ ds. AreDetails h ds.items)
-details_so (Ok ds) h falls spots are stand is =
-    record { falls = falls; are = are; spots = spots; stand = stand; details_are = is }
-details_so (Err e) h falls spots are stand is = tt
+pub details_so : {E : Type 0} (r : Result (Vec Detail Global) E) (h : Kept) (falls : ℕ → Option PlainFall) → AreFalls h.course.program h.course.items falls
+    → IfOk r (λ ds. ds.items ≡ details_with h falls) → IfOk r (λ ds. AreDetails h ds.items)
+details_so (Ok ds) h falls are is = record { falls = falls; are = are; details_are = is }
+details_so (Err e) h falls are is = tt
 
 -- those of its threads that ended at faults
 pub fallen_so : {E : Type 0} (r : Result (Vec Detail Global) E) (h : Kept) (falls : ℕ → Option PlainFall) → AreFalls h.course.program h.course.items falls

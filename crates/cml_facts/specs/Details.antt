@@ -16,8 +16,7 @@ use Rattle.cml_step.specs.declared.fault.Fault.{Fault}
 use Rattle.cml_step.specs.declared.fault.Fault.TheVariants as fault
 use Rattle.cml_step.specs.Asks as ask
 use Rattle.cml_step.specs.Asks.{PlainAsk}
-use Rattle.cml_facts.specs.declared.ending.standing.Spot.{Spot}
-use Rattle.cml_facts.specs.Standings.{call_of_machine, spot_at, AreSpots}
+use Rattle.cml_facts.specs.Standings.{call_of_machine}
 use Rattle.cml_facts.specs.Falls.{PlainFall, AreFalls}
 use Rattle.cml_facts.specs.declared.fault.detail.Detail.{Detail}
 use Rattle.cml_facts.specs.declared.fault.detail.Detail.TheVariants as detail
@@ -58,20 +57,10 @@ call_details (Some (force g asked)) = []
 call_details (Some (wraps left v)) = []
 call_details None = []
 
--- the statement at which a call stands, if one is told
-abbrev pub statement_details : Option ℕ → List Detail
-statement_details None = []
-statement_details (Some n) = detail.Stands n ∷ []
-
-abbrev pub spot_details : Option Spot → List Detail
-spot_details None = []
-spot_details (Some spot) = statement_details spot.statement
-
--- with which function the thread of this number began, where its top call is, and the statement at which that stands
-abbrev pub standing_details : PlainCourse → List (Option Spot) → ℕ → List Detail
-standing_details c spots t =
-    began_details (slice_get (origins (text_of c.program) c.items) t)
-    ++ (call_details (option_and_then call_of_machine (slice_get c.machines t)) ++ spot_details (spot_at spots t))
+-- with which function the thread of this number began, and where its top call is
+abbrev pub standing_details : PlainCourse → ℕ → List Detail
+standing_details c t =
+    began_details (slice_get (origins (text_of c.program) c.items) t) ++ call_details (option_and_then call_of_machine (slice_get c.machines t))
 
 -- what was wrong with a step
 abbrev pub fault_detail : Fault → Detail
@@ -103,30 +92,27 @@ fall_details c t (Some fall) =
     ∷ (began_details (slice_get (origins (text_of c.program) c.items) t) ++ (call_details (call_of_machine fall.machine) ++ ask_detail fall.ask ∷ []))
 
 -- A thread: whether it waits, runs, or ended at a fault, where it stands or stood, and for what kinds of events it waits.
-abbrev pub thread_details : PlainCourse → (ℕ → Option PlainFall) → List (Option Spot) → ℕ → PlainThread → List Detail
-thread_details c falls spots t running = detail.Runs ∷ standing_details c spots t
-thread_details c falls spots t (pending_on g) = detail.Waits ∷ (standing_details c spots t ++ map kind_detail (bases g))
-thread_details c falls spots t ended = fall_details c t (falls t)
+abbrev pub thread_details : PlainCourse → (ℕ → Option PlainFall) → ℕ → PlainThread → List Detail
+thread_details c falls t running = detail.Runs ∷ standing_details c t
+thread_details c falls t (pending_on g) = detail.Waits ∷ (standing_details c t ++ map kind_detail (bases g))
+thread_details c falls t ended = fall_details c t (falls t)
 
 -- those of these threads, of which the first has this number
-abbrev pub threads_details : PlainCourse → (ℕ → Option PlainFall) → List (Option Spot) → ℕ → List PlainThread → List Detail
-threads_details c falls spots t [] = []
-threads_details c falls spots t (thread ∷ threads) = thread_details c falls spots t thread ++ threads_details c falls spots (suc t) threads
+abbrev pub threads_details : PlainCourse → (ℕ → Option PlainFall) → ℕ → List PlainThread → List Detail
+threads_details c falls t [] = []
+threads_details c falls t (thread ∷ threads) = thread_details c falls t thread ++ threads_details c falls (suc t) threads
 
 -- How a run ended: its end, the threads that wait, run, or ended at a fault, by number, and how many of the last there are.
-abbrev pub details_with : Kept → (ℕ → Option PlainFall) → List (Option Spot) → List Detail
-details_with h falls spots =
+abbrev pub details_with : Kept → (ℕ → Option PlainFall) → List Detail
+details_with h falls =
     end_detail (ending h.budget (run_of h.course))
-    ∷ (threads_details h.course falls spots 0 h.course.world.threads ++ detail.Faults (fault_count (text_of h.course.program) h.course.items) ∷ [])
+    ∷ (threads_details h.course falls 0 h.course.world.threads ++ detail.Faults (fault_count (text_of h.course.program) h.course.items) ∷ [])
 
--- These are the details of how the run of a hub ended. A call that waits stands at a statement that has it wait; where there are two such,
--- either may be told.
+-- These are the details of how the run of a hub ended.
 pub record AreDetails (h : Kept) (ds : List Detail) : Type 0 where
   pub falls : ℕ → Option PlainFall
   pub are : AreFalls h.course.program h.course.items falls
-  pub spots : List (Option Spot)
-  pub stand : AreSpots h.course spots
-  pub details_are : ds ≡ details_with h falls spots
+  pub details_are : ds ≡ details_with h falls
 
 -- of the threads that ended at faults alone, how each did
 abbrev pub fallen_details : PlainCourse → (ℕ → Option PlainFall) → ℕ → List PlainThread → List Detail

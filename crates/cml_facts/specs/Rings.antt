@@ -1,6 +1,5 @@
 -- Threads that wait for one another in a ring.
-use Rattle.std.specs.Prelude.{◌≡◌, ◌≢◌, ◌⊎◌, ℕ, zero, suc, true, ◌==◌, if◌then◌else◌, List, [], ◌∷◌, ◌++◌, map, length}
-use Rattle.std.specs.Prelude.{Option, Some, None, option_map, option_and_then, slice_get, slice_index_or, All, AllPairs}
+use Rattle.std.specs.Prelude.{◌≡◌, ◌≢◌, ◌⊎◌, ℕ, zero, suc, true, ◌==◌, if◌then◌else◌, List, [], ◌∷◌, ◌++◌, map, length, Option, Some, None, option_map, option_and_then, slice_get, slice_index_or, All, AllPairs}
 use Rattle.std.specs.Option.{option_or}
 use Rattle.cml_value.specs.Value.{PlainBase, mtake, mget, mswap, join}
 use Rattle.cml_value.specs.Group.{bases}

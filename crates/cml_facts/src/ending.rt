@@ -23,7 +23,6 @@ pub use ending::{Ending, ending_of};
 pub use law::{what_is_told_as_a_ring_is_one, who_waits_for_another_cannot_go_on};
 pub use left::{Left, Stands, stands_of};
 pub use room::make_room;
-pub(crate) use standing::spot_at;
 pub use standing::{Spot, as_call, machine_spot, place_of, spots_of, thread_spot, top_call};
 pub use stuck::{is_stuck, some_held_up};
 pub use takers::{Take, Takers};

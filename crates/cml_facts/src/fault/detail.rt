@@ -29,8 +29,6 @@ pub enum Detail {
     In(u32),
     /// That call goes on at this place, which is the number of an instruction of its function.
     At(usize),
-    /// It stands at the statement of this number: while it waits, at one that has it wait.
-    Stands(usize),
     /// It waits for what is always ready.
     Always,
     /// It waits to send on a channel.

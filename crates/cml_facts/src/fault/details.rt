@@ -9,7 +9,7 @@ ghost use Rattle.cml_facts.specs.Standings.{call_of_machine};
 ghost use Rattle.cml_facts.specs.{FallViews.{fall_in}, Details.{AreDetails, AreFallenDetails}};
 ghost use Rattle.cml_facts.specs.Details as spec;
 
-use crate::ending::{Spot, spot_at, spots_of, top_call};
+use crate::ending::top_call;
 use crate::fault::detail::{Detail, ask_detail, end_detail, kind_detail};
 use crate::fault::fall::{Falls, falls_of};
 use cml_hub::Hub;
@@ -48,29 +48,6 @@ fn push_place(details: &mut Vec<Detail>, machine: Option<&Machine>) -> Result<()
     }
 }
 
-// Appends the statement at which a call stands, if one is known.
-fn push_statement(details: &mut Vec<Detail>, statement: Option<usize>) -> Result<(), AllocError>
-    ensures { OnOk result (details.new.items ≡ details.old.items ++ spec.statement_details statement) }
-{
-    match statement {
-        Some(number) => {
-            details.push(Detail::Stands(number))?;
-            Ok(())
-        }
-        None => Ok(()),
-    }
-}
-
-// The same of a spot.
-fn push_spot(details: &mut Vec<Detail>, spot: Option<Spot>) -> Result<(), AllocError>
-    ensures { OnOk result (details.new.items ≡ details.old.items ++ spec.spot_details spot) }
-{
-    match spot {
-        Some(spot) => push_statement(details, spot.statement),
-        None => Ok(()),
-    }
-}
-
 // Appends the function with which a thread began.
 fn push_began(details: &mut Vec<Detail>, began: Option<&FnRef>) -> Result<(), AllocError>
     ensures { OnOk result (details.new.items ≡ details.old.items ++ spec.began_details (option_copied began.entry)) }
@@ -101,24 +78,21 @@ struct Ended<'a> {
     hub: &'a Hub,
     /// The threads that ended at faults.
     falls: &'a Falls,
-    /// Where each thread stands that has not ended.
-    spots: &'a [Option<Spot>],
 }
 
 impl Ended<'_> {
     // Appends with which function the thread of this number began, and where it stands.
     fn push_standing(&self, details: &mut Vec<Detail>, thread: Tid) -> Result<(), AllocError>
-        ensures { OnOk result (details.new.items ≡ details.old.items ++ spec.standing_details self.now.hub.now.course self.now.spots.now thread.0) }
+        ensures { OnOk result (details.new.items ≡ details.old.items ++ spec.standing_details self.now.hub.now.course thread.0) }
     {
         push_began(details, self.hub.origin(thread))?;
-        push_place(details, self.hub.machine(thread))?;
-        push_spot(details, spot_at(self.spots, thread.0))
+        push_place(details, self.hub.machine(thread))
     }
 
     // Appends what is said of a thread that runs.
     fn push_running(&self, details: &mut Vec<Detail>, thread: Tid) -> Result<(), AllocError>
         ensures { OnOk result (details.new.items ≡ details.old.items
-            ++ Detail.Runs ∷ spec.standing_details self.now.hub.now.course self.now.spots.now thread.0) }
+            ++ Detail.Runs ∷ spec.standing_details self.now.hub.now.course thread.0) }
     {
         details.push(Detail::Runs)?;
         self.push_standing(details, thread)
@@ -132,7 +106,7 @@ impl Ended<'_> {
         group: &Group,
     ) -> Result<(), AllocError>
         ensures { OnOk result (details.new.items ≡ details.old.items
-            ++ Detail.Waits ∷ (spec.standing_details self.now.hub.now.course self.now.spots.now thread.0 ++ map spec.kind_detail (bases_of group.now))) }
+            ++ Detail.Waits ∷ (spec.standing_details self.now.hub.now.course thread.0 ++ map spec.kind_detail (bases_of group.now))) }
     {
         details.push(Detail::Waits)?;
         self.push_standing(details, thread)?;
@@ -160,7 +134,7 @@ impl Ended<'_> {
     // Appends what is said of the thread of this number.
     fn push_thread(&self, details: &mut Vec<Detail>, thread: Tid) -> Result<(), AllocError>
         ensures { OnOk result ((t : PlainThread) → slice_get self.now.hub.now.course.world.threads thread.0 ≡ Some t →
-            details.new.items ≡ details.old.items ++ spec.thread_details self.now.hub.now.course (fall_in self.now.falls.now) self.now.spots.now thread.0 t) }
+            details.new.items ≡ details.old.items ++ spec.thread_details self.now.hub.now.course (fall_in self.now.falls.now) thread.0 t) }
     {
         let book = self.hub.book();
         if book.is_running(thread) {
@@ -175,7 +149,7 @@ impl Ended<'_> {
     // Appends what is said of all threads.
     fn push_threads(&self, details: &mut Vec<Detail>) -> Result<(), AllocError>
         ensures { OnOk result (details.new.items ≡ details.old.items
-            ++ spec.threads_details self.now.hub.now.course (fall_in self.now.falls.now) self.now.spots.now 0 self.now.hub.now.course.world.threads) }
+            ++ spec.threads_details self.now.hub.now.course (fall_in self.now.falls.now) 0 self.now.hub.now.course.world.threads) }
     {
         for t in 0..self.hub.book().next_thread().0 {
             self.push_thread(details, Tid(t))?;
@@ -197,7 +171,7 @@ impl Ended<'_> {
 
     // How the run ended.
     fn details(&self) -> Result<Vec<Detail>, AllocError>
-        ensures { IfOk result (λ details. details.items ≡ spec.details_with self.now.hub.now (fall_in self.now.falls.now) self.now.spots.now) }
+        ensures { IfOk result (λ details. details.items ≡ spec.details_with self.now.hub.now (fall_in self.now.falls.now)) }
     {
         let mut details = Vec::new(self.alloc);
         details.push(end_detail(self.hub.end()))?;
@@ -216,12 +190,10 @@ pub fn details_of(alloc: Global, hub: &Hub) -> Result<Vec<Detail>, AllocError>
     ensures { IfOk result (λ details. AreDetails hub.now details.items) }
 {
     let falls = falls_of(alloc, hub)?;
-    let spots = spots_of(alloc, hub)?;
     let ended = Ended {
         alloc,
         hub,
         falls: &falls,
-        spots: spots.as_slice(),
     };
     ended.details()
 }
@@ -238,7 +210,6 @@ pub fn fallen_details_of(alloc: Global, hub: &Hub) -> Result<Vec<Detail>, AllocE
         alloc,
         hub,
         falls: &falls,
-        spots: &[],
     };
     ended.fallen()
 }

@@ -8,4 +8,4 @@ abbrev pub invariant-loop-t : goal.invariant-loop-t
 invariant-loop-t l =
     let threads = l.self.hub.now.course.world.threads in
     let falls = fall_in l.self.falls.now in
-    l.details.items ++ threads_details l.self.hub.now.course falls l.self.spots.now l.t (drop l.t threads) ≡ l.fn.details.items ++ threads_details l.self.hub.now.course falls l.self.spots.now 0 threads
+    l.details.items ++ threads_details l.self.hub.now.course falls l.t (drop l.t threads) ≡ l.fn.details.items ++ threads_details l.self.hub.now.course falls 0 threads
