@@ -11,7 +11,7 @@ use std::alloc::{AllocError, Global};
 type Made<'a> = Result<Command<'a>, AllocError>;
 
 // The day of the newest entry of CHANGELOG.md.
-const VERSION: &str = "2026-11-30";
+const VERSION: &str = "2026-12-01";
 
 // The most steps or items that an option counts.
 const MOST: i64 = 1_000_000_000;
