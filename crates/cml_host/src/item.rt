@@ -28,10 +28,21 @@ pub fn explain_item(
 {
     let at = item_line(alloc, text, number)?;
     let mut words = format!(in alloc; "line {at}: ")?.into_bytes();
-    let why = why_not(alloc, hub, item)?;
-    push_why(alloc, &mut words, forms, item, &why)?;
+    push_reason(alloc, &mut words, forms, hub, item)?;
     words.push(b'\n')?;
     tell_item(alloc, number, true, words.as_slice())
+}
+
+// Appends why the item can't happen next in this hub.
+fn push_reason(
+    alloc: Global,
+    words: &mut Vec<u8>,
+    forms: &[Sexpr],
+    hub: &Hub,
+    item: &Item,
+) -> Result<(), AllocError> {
+    let why = why_not(alloc, hub, item)?;
+    push_why(alloc, words, forms, item, &why)
 }
 
 /// What is told of the item of this number, and behind it these words, where it is explained.
