@@ -94,7 +94,7 @@ fn run<'a>(alloc: Global) -> Made<'a>
         "How many steps it may take, 1 to 1000000000 [default: 1000000]",
     );
     let workers = workers(alloc).help("How many workers run its threads, 1 to 64 [default: 1]");
-    let seed = seed(alloc).help("Draws the choices from this number");
+    let seed = seed(alloc).help("Makes its choices by this number");
     let draw = option(alloc, "draw", "FILE").help("Saves a picture of the run");
     let command = on_file(alloc, "run", "Runs a script");
     let command = with_arg(command, workers);
@@ -189,7 +189,7 @@ fn explore<'a>(alloc: Global) -> Made<'a>
 fn ordering<'a>(alloc: Global, command: Made<'a>) -> Made<'a>
     ensures { (shape : Shape) → IfOk command.entry (IsShapedAs shape) → IfOk result (IsShapedAs (with_order shape)) }
 {
-    let turns = flag_of(alloc, "turns").help("Draws the order of the threads' turns too");
+    let turns = flag_of(alloc, "turns").help("Chooses the order of the threads' turns too");
     let priority = priority(alloc).help(
         "Gives the turns by priorities, which are drawn and change at D - 1 points, 1 to 64",
     );
@@ -222,7 +222,9 @@ fn verify<'a>(alloc: Global) -> Made<'a>
         "Writes each outcome once, with what is printed and how each thread ends, as a line of JSON",
     );
     let command = with_arg(on_file(alloc, "verify", about), states);
-    let endless = flag_of(alloc, "endless").help("It is no mistake that a schedule never ends");
+    let endless = flag_of(alloc, "endless").help(
+        "It is no mistake that a schedule can't go on to an end",
+    );
     let command = with_arg(command, outcomes);
     let command = with_arg(command, endless);
     with_arg(with_arg(command, save), servers(alloc))
