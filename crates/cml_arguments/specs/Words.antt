@@ -151,13 +151,13 @@ part_command name = command_of name (file_rule (codes "FILE") ∷ file_rule (cod
 abbrev pub explore_command : Shape
 explore_command = command_of (codes "explore")
     (file_rule (codes "FILE") ∷ runs_rule (codes "runs") ∷ any_rule (codes "seed") ∷ count_rule (codes "steps") ∷ workers_rule (codes "workers")
-    ∷ flag_rule (codes "picks") ∷ order_rules ++ (finding_rules ++ (property_rules ++ alike_rules)))
+    ∷ flag_rule (codes "picks") ∷ flag_rule (codes "json") ∷ order_rules ++ (finding_rules ++ (property_rules ++ alike_rules)))
 
 abbrev pub verify_command : Shape
 verify_command =
     command_of (codes "verify")
     (file_rule (codes "FILE") ∷ states_rule (codes "states") ∷ flag_rule (codes "outcomes") ∷ flag_rule (codes "endless") ∷ option_rule (codes "save")
-    ∷ list_rule (codes "servers") ∷ [])
+    ∷ list_rule (codes "servers") ∷ flag_rule (codes "json") ∷ [])
 
 abbrev pub shrink_command : Shape
 shrink_command = command_of (codes "shrink")
@@ -314,6 +314,7 @@ pub record IsExplore (given : List Row) (options : ExploreOptions) : Type 0 wher
   pub properties : IsProperties given options.properties
   pub same_lines : options.same_lines ≡ is_flagged (codes "same-lines") given
   pub same_order : options.same_order ≡ is_flagged (codes "same-order") given
+  pub json : options.json ≡ is_flagged (codes "json") given
   pub counts : IsRuns options.runs × IsCount options.steps × IfSome options.workers IsWorkers × IfSome options.priority IsDepth
 
 -- and those of `verify`; where no number of states was, 20,000
@@ -324,6 +325,7 @@ pub record IsVerify (given : List Row) (options : VerifyOptions) : Type 0 where
   pub endless : options.endless ≡ is_flagged (codes "endless") given
   pub save : option_map (λ start. start.now) options.save ≡ first_of (codes "save") given
   pub servers : map (λ name. name.now) options.servers.items ≡ option_texts (codes "servers") given
+  pub json : options.json ≡ is_flagged (codes "json") given
   pub counts : IsStates options.states
 
 -- and those of `shrink`; where no number of replays was given, 10,000
@@ -484,8 +486,12 @@ abbrev pub ExploreOdds : ExploreOptions → List ℕ → Type 0
 ExploreOdds options = OrElse (UntilOdds options.until.items) (OrderOdds options)
 
 -- a file that `verify` saves would replace the script
+abbrev pub VerifySaveOdds : VerifyOptions → List ℕ → Type 0
+VerifySaveOdds options told = IsSomeAnd options.save (λ start. SavesOver start.now options.script.now) × (told ≡ would_replace (codes "--save") options.script.now)
+
+-- `--json` and `--outcomes` are both given; or a file that is saved would replace the script
 abbrev pub VerifyOdds : VerifyOptions → List ℕ → Type 0
-VerifyOdds options told = IsSomeAnd options.save (λ start. SavesOver start.now options.script.now) × (told ≡ would_replace (codes "--save") options.script.now)
+VerifyOdds options = OrElse (Clash (codes "--json") options.json (codes "--outcomes") options.outcomes) (VerifySaveOdds options)
 
 -- the record of a run by hand would replace its script
 abbrev pub StepOdds : StepOptions → List ℕ → Type 0

@@ -205,6 +205,8 @@ pub struct ExploreOptions<'a> {
     pub same_lines: bool,
     /// Whether they must print the same lines in the same order.
     pub same_order: bool,
+    /// Whether what is told of them is an object of JSON.
+    pub json: bool,
 }
 
 /// At which run to stop.
@@ -253,6 +255,8 @@ pub struct VerifyOptions<'a> {
     pub save: Option<&'a str>,
     /// The functions of servers: threads that began with one of them may wait.
     pub servers: Vec<&'a str>,
+    /// Whether what is found is told as an object of JSON.
+    pub json: bool,
 }
 
 /// How a shorter schedule is looked for.

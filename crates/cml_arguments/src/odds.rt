@@ -2,7 +2,7 @@
 
 ghost use Rattle.std.specs.{Prelude.{◌≡◌, ◌↔◌, ◌<◌, ◌-◌, codes, false, true, is_some, option_map, IfOk, IsTrue, List, MatchOption, Some, ℕ}, Char.{is_ascii_digit}};
 ghost use Rattle.std.specs.{List.{list_all, list_any}, String.{string_bytes}};
-ghost use Rattle.cml_arguments.specs.Words.{saved_end, saved_name, start_of, AreOdds, Clash, DepthOdds, DrawnOdds, ExplainsLive, ExploreOdds, InputOdds, KindsOdds, LastOdds, OrderOdds, OverOdds, OrElse, OverRecord, PassesTheLast, PicksOdds, ReplacedOdds, Replaces, RunOdds, SaveOdds, SavedOdds, SavesOver, SeedsOdds, StepOdds, ToldOdds, TraceOdds, TurnsOdds, UntilOdds, VerifyOdds, WatchOdds, WorkersOdds, StopOdds, StopWatchOdds};
+ghost use Rattle.cml_arguments.specs.Words.{saved_end, saved_name, start_of, AreOdds, Clash, DepthOdds, DrawnOdds, ExplainsLive, ExploreOdds, InputOdds, KindsOdds, LastOdds, OrderOdds, OverOdds, OrElse, OverRecord, PassesTheLast, PicksOdds, ReplacedOdds, Replaces, RunOdds, SaveOdds, SavedOdds, SavesOver, SeedsOdds, StepOdds, ToldOdds, TraceOdds, TurnsOdds, UntilOdds, VerifyOdds, VerifySaveOdds, WatchOdds, WorkersOdds, StopOdds, StopWatchOdds};
 ghost use Rattle.cml_arguments.specs.Words as spec;
 
 use crate::{
@@ -307,6 +307,25 @@ fn clash(
 // And of those of `verify`.
 fn verify_odds(alloc: Global, options: &VerifyOptions<'_>) -> Result<Option<String>, AllocError>
     ensures { IfOk result (λ told. ToldOdds (VerifyOdds options.now) (option_map (λ text. string_bytes text) told)) }
+{
+    match clash(
+        alloc,
+        "--json",
+        options.json,
+        "--outcomes",
+        options.outcomes,
+    )? {
+        Some(told) => Ok(Some(told)),
+        None => verify_save_odds(alloc, options),
+    }
+}
+
+// And of the files that it saves.
+fn verify_save_odds(
+    alloc: Global,
+    options: &VerifyOptions<'_>,
+) -> Result<Option<String>, AllocError>
+    ensures { IfOk result (λ told. ToldOdds (VerifySaveOdds options.now) (option_map (λ text. string_bytes text) told)) }
 {
     match options.save {
         Some(start) if saves_over(start, options.script) => {

@@ -151,6 +151,7 @@ fn explore_options<'a>(alloc: Global, matches: &ArgMatches<'a>) -> Given<Explore
         properties,
         same_lines: flag(matches, "same-lines"),
         same_order: flag(matches, "same-order"),
+        json: flag(matches, "json"),
     })
 }
 
@@ -167,6 +168,7 @@ fn verify_options<'a>(alloc: Global, matches: &ArgMatches<'a>) -> Given<VerifyOp
         endless: flag(matches, "endless"),
         save: matches.get_str("save"),
         servers,
+        json: flag(matches, "json"),
     })
 }
 

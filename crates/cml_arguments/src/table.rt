@@ -181,6 +181,7 @@ fn explore<'a>(alloc: Global) -> Made<'a>
     let command = with_arg(command, steps);
     let command = with_arg(command, workers);
     let command = with_arg(command, picks);
+    let command = with_arg(command, json(alloc));
     let command = finding(alloc, ordering(alloc, command));
     printing_alike(alloc, holding(alloc, command))
 }
@@ -227,7 +228,10 @@ fn verify<'a>(alloc: Global) -> Made<'a>
     );
     let command = with_arg(command, outcomes);
     let command = with_arg(command, endless);
-    with_arg(with_arg(command, save), servers(alloc))
+    with_arg(
+        with_arg(with_arg(command, save), servers(alloc)),
+        json(alloc),
+    )
 }
 
 // The command that looks for a shorter schedule.
@@ -342,6 +346,13 @@ fn file<'a>(alloc: Global, name: &'a str) -> Arg<'a>
     ensures { FollowsRule (file_rule name.now) result }
 {
     Arg::new(alloc, name).required(true).action(ArgAction::Set)
+}
+
+// The flag by which a command tells what it found to programs.
+fn json<'a>(alloc: Global) -> Arg<'a>
+    ensures { FollowsRule (flag_rule (codes "json")) result }
+{
+    flag_of(alloc, "json").help("Writes what is told as one object of JSON")
 }
 
 // A flag.

@@ -8,7 +8,7 @@ use Rattle.cml_arguments.proofs.options.explore_options.Goals as goal
 -- the rules in front of what must hold
 abbrev own : List Rule
 own = file_rule (codes "FILE") ∷ runs_rule (codes "runs") ∷ any_rule (codes "seed") ∷ count_rule (codes "steps") ∷ workers_rule (codes "workers")
-    ∷ flag_rule (codes "picks") ∷ order_rules ++ finding_rules
+    ∷ flag_rule (codes "picks") ∷ flag_rule (codes "json") ∷ order_rules ++ finding_rules
 
 pub property_options-requires : goal.property_options-requires
 property_options-requires c = mid_served (rows_of (found_of c.args.matches.now)) own property_rules alike_rules c.requires
@@ -37,6 +37,9 @@ flag-requires-3 c = flag_served _ _ (codes "same-lines") c.requires refl
 pub flag-requires-4 : goal.flag-requires-4
 flag-requires-4 c = flag_served _ _ (codes "same-order") c.requires refl
 
+pub flag-requires-5 : goal.flag-requires-5
+flag-requires-5 c = flag_served _ _ (codes "json") c.requires refl
+
 pub returns : goal.returns
 returns c = record {
   script = c.given.ensures;
@@ -53,5 +56,6 @@ returns c = record {
   properties = c.in_ok-properties.ensures;
   same_lines = c.flag-3.ensures;
   same_order = c.flag-4.ensures;
+  json = c.flag-5.ensures;
   counts = search (rules, default_in_range, number_in_range);
 }

@@ -13,6 +13,9 @@ flag-requires c = flag_served _ _ (codes "outcomes") c.requires refl
 pub flag-requires-2 : goal.flag-requires-2
 flag-requires-2 c = flag_served _ _ (codes "endless") c.requires refl
 
+pub flag-requires-3 : goal.flag-requires-3
+flag-requires-3 c = flag_served _ _ (codes "json") c.requires refl
+
 pub returns : goal.returns
 returns c = record {
   script = c.given.ensures;
@@ -21,5 +24,6 @@ returns c = record {
   endless = c.flag-2.ensures;
   save = c.get_str.ensures ∙ first_value-rows (found_of c.args.matches.now) (codes "save");
   servers = c.in_ok-servers.ensures;
+  json = c.flag-3.ensures;
   counts = search (rules, default_in_range);
 }

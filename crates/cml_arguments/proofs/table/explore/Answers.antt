@@ -24,6 +24,9 @@ fourth = with_rule (workers_rule (codes "workers")) third
 abbrev fifth : Shape
 fifth = with_rule (flag_rule (codes "picks")) fourth
 
+abbrev sixth : Shape
+sixth = with_rule (flag_rule (codes "json")) fifth
+
 pub returns : goal.returns
 returns c =
     let one : IfOk c.with_arg-command.result (IsShapedAs first) = c.with_arg-command.ensures (runs_rule (codes "runs")) begun (search (rules, helped)) c.on_file.ensures in
@@ -31,5 +34,6 @@ returns c =
     let three : IfOk c.with_arg-command-3.result (IsShapedAs third) = c.with_arg-command-3.ensures (count_rule (codes "steps")) second (search (rules, helped)) two in
     let four : IfOk c.with_arg-command-4.result (IsShapedAs fourth) = c.with_arg-command-4.ensures (workers_rule (codes "workers")) third (search (rules, helped)) three in
     let five : IfOk c.with_arg-command-5.result (IsShapedAs fifth) = c.with_arg-command-5.ensures (flag_rule (codes "picks")) fourth (search (rules, helped)) four in
-    let finds : IfOk c.finding-command.result (IsShapedAs (with_finding (with_order fifth))) = c.finding-command.ensures (with_order fifth) (c.ordering.ensures fifth five) in
-    c.printing_alike.ensures (with_properties (with_finding (with_order fifth))) (c.holding.ensures (with_finding (with_order fifth)) finds)
+    let six : IfOk c.with_arg-command-6.result (IsShapedAs sixth) = c.with_arg-command-6.ensures (flag_rule (codes "json")) fifth c.json.ensures five in
+    let finds : IfOk c.finding-command.result (IsShapedAs (with_finding (with_order sixth))) = c.finding-command.ensures (with_order sixth) (c.ordering.ensures sixth six) in
+    c.printing_alike.ensures (with_properties (with_finding (with_order sixth))) (c.holding.ensures (with_finding (with_order sixth)) finds)

@@ -20,10 +20,14 @@ third = with_rule (flag_rule (codes "endless")) second
 abbrev fourth : Shape
 fourth = with_rule (option_rule (codes "save")) third
 
+abbrev fifth : Shape
+fifth = with_rule (list_rule (codes "servers")) fourth
+
 pub returns : goal.returns
 returns c =
     let one = c.with_arg-command.ensures (states_rule (codes "states")) begun (search (rules, helped)) c.on_file.ensures in
     let two = c.with_arg-command-2.ensures (flag_rule (codes "outcomes")) first (search (rules, helped)) one in
     let three = c.with_arg-command-3.ensures (flag_rule (codes "endless")) second (search (rules, helped)) two in
     let four = c.with_arg.ensures (option_rule (codes "save")) third (search (rules, helped)) three in
-    c.with_arg-2.ensures (list_rule (codes "servers")) fourth c.servers.ensures four
+    let five = c.with_arg-2.ensures (list_rule (codes "servers")) fourth c.servers.ensures four in
+    c.with_arg-3.ensures (flag_rule (codes "json")) fifth c.json.ensures five
