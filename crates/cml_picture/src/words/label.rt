@@ -88,6 +88,17 @@ impl Speaker<'_> {
         }
     }
 
+    // What an ask feeds, and to what.
+    fn fed(&self, ask: &Ask) -> Result<Vec<u8>, AllocError> {
+        match ask {
+            Ask::IPut(ivar, value) => self.over(b"I-variable ", ivar.0, value),
+            Ask::MPut(mvar, value) => self.over(b"M-variable ", mvar.0, value),
+            Ask::Mail(mailbox, value) => self.over(b"mailbox ", mailbox.0, value),
+            Ask::Multicast(channel, value) => self.over(b"multicast channel ", channel.0, value),
+            _ => Ok(Vec::new(self.alloc)),
+        }
+    }
+
     // What stands beside the mark of a turn.
     fn turned(&self, turned: &Turned) -> Result<Vec<u8>, AllocError> {
         match &turned.came {
@@ -96,12 +107,12 @@ impl Speaker<'_> {
             Came::Done(number) => match &turned.ask {
                 Ask::Spawn(function) => self.beginning(*number, Some(function)),
                 Ask::Print(value) => self.printed(value),
-                _ => Ok(Vec::new(self.alloc)),
+                ask => self.fed(ask),
             },
         }
     }
 
-    // A value that goes over a channel of this kind and number.
+    // A value that goes over an object of this kind and number.
     fn over(&self, kind: &[u8], number: u32, value: &Value) -> Result<Vec<u8>, AllocError> {
         let mut words = Vec::new(self.alloc);
         push_numbered(self.alloc, &mut words, kind, u64::from(number))?;
