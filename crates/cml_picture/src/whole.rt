@@ -28,6 +28,7 @@ pub fn picture_of(
         alloc,
         forms,
         items: sheet.items,
+        left: sheet.left.as_slice(),
     };
     let marks = speaker.marks_of(sheet)?;
     let marks = marks.as_slice();
