@@ -17,25 +17,25 @@ use Rattle.cml_picture.specs.Stops.{CantCome, Halts, HaltsOf, Stops, StopsOf}
 
 -- what one item shows
 pub shown_one : (places : List (List Place)) (c : PlainCourse) (s : PlainStack) (item : Item) (end : PlainCourse) (x : Happened) (s' : PlainStack) →
-    Adds c item end → HasHappened places c item end x → s' ≡ with_happened s x → Shows places c s (item ∷ []) end s'
+    Adds c item end → HasHappened places c item end x → s' ≡ with_happened end.world s x → Shows places c s (item ∷ []) end s'
 shown_one places c s item end x s' adds did e = (end, x, adds, did, (refl, e))
 
 -- why what it shows is not added
 pub stops_one : (places : List (List Place)) (c : PlainCourse) (s : PlainStack) (item : Item) (end : PlainCourse) (x : Happened) (why : DrawFault) →
-    Adds c item end → HasHappened places c item end x → RefusesShown (with_happened s x) why → Stops places c s item end why
+    Adds c item end → HasHappened places c item end x → RefusesShown (with_happened end.world s x) why → Stops places c s item end why
 stops_one places c s item end x (BadItem number) adds did h = absurd h
-stops_one places c s item end x TooMany adds did h = (with_happened s x, shown_one places c s item end x (with_happened s x) adds did refl, h)
+stops_one places c s item end x TooMany adds did h = (with_happened end.world s x, shown_one places c s item end x (with_happened end.world s x) adds did refl, h)
 stops_one places c s item end x Memory adds did h = tt
 
 -- the same, of what adding it returns
 pub shown_by : {T : Type 0} (r : Result T DrawFault) (places : List (List Place)) (c : PlainCourse) (s : PlainStack) (item : Item) (end : PlainCourse) (x : Happened) (s' : PlainStack) →
-    Adds c item end → HasHappened places c item end x → OnOk r (s' ≡ with_happened s x) → OnOk r (Shows places c s (item ∷ []) end s')
+    Adds c item end → HasHappened places c item end x → OnOk r (s' ≡ with_happened end.world s x) → OnOk r (Shows places c s (item ∷ []) end s')
 shown_by r places c s item end x s' adds did h = on_ok_weaker r (λ e. shown_one places c s item end x s' adds did e) h
 
 pub stops_by : {T : Type 0} (r : Result T DrawFault) (places : List (List Place)) (c : PlainCourse) (s : PlainStack) (item : Item) (end : PlainCourse) (x : Happened) →
-    Adds c item end → HasHappened places c item end x → IfErr r (λ why. RefusesShown (with_happened s x) why) → IfErr r (λ why. Stops places c s item end why)
+    Adds c item end → HasHappened places c item end x → IfErr r (λ why. RefusesShown (with_happened end.world s x) why) → IfErr r (λ why. Stops places c s item end why)
 stops_by r places c s item end x adds did h =
-    IfErr-weaker r (λ why. RefusesShown (with_happened s x) why) (λ why. Stops places c s item end why) (λ why q. stops_one places c s item end x why adds did q) h
+    IfErr-weaker r (λ why. RefusesShown (with_happened end.world s x) why) (λ why. Stops places c s item end why) (λ why q. stops_one places c s item end x why adds did q) h
 
 -- what leads on, and then these
 pub leads_then : (a : PlainCourse) (items : List Item) (b : PlainCourse) (more : List Item) (c : PlainCourse) → ItemsLead a items b → ItemsLead b more c → ItemsLead a (items ++ more) c

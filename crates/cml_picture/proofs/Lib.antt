@@ -1,4 +1,6 @@
 pub mod StackLemmas
+pub mod FeedLemmas
+pub mod HoldLemmas
 pub mod FlagLemmas
 pub mod Along
 pub mod Made

@@ -18,7 +18,7 @@ use Rattle.cml_picture.specs.WellFormed.{IsWellFormed}
 abbrev pub Shows : List (List Place) → PlainCourse → PlainStack → List Item → PlainCourse → PlainStack → Type 0
 Shows places c s [] c' s' = (c' ≡ c) × (s' ≡ s)
 Shows places c s (item ∷ items) c' s' =
-    (next : PlainCourse) × (x : Happened) × Adds c item next × HasHappened places c item next x × Shows places next (with_happened s x) items c' s'
+    (next : PlainCourse) × (x : Happened) × Adds c item next × HasHappened places c item next x × Shows places next (with_happened next.world s x) items c' s'
 
 -- these items lead from one course to another
 abbrev pub ItemsLead : PlainCourse → List Item → PlainCourse → Type 0

@@ -18,6 +18,21 @@ row_height Event = 14
 row_height Lost = 14
 row_height shape = 22
 
+-- how far below the top of its row a mark stands
+abbrev pub row_drop : Shape → ℕ
+row_drop Beginning = 0
+row_drop Spawn = 18
+row_drop Arrow = 18
+row_drop Print = 8
+row_drop Nack = 8
+row_drop End = 9
+row_drop Event = 7
+row_drop Lost = 7
+row_drop shape = 11
+
+abbrev pub level_of : Mark → ℕ
+level_of m = m.at + row_drop m.shape
+
 -- where the first row begins
 abbrev pub top_row : ℕ
 top_row = 40

@@ -1,4 +1,6 @@
 pub mod Signs
+pub mod Feeds
+pub mod Holds
 pub mod Stacks
 pub mod Parts
 pub mod Lives
@@ -6,6 +8,7 @@ pub mod Sheets
 pub mod Draws
 pub mod Stops
 pub mod Layouts
+pub mod Links
 pub mod Xml
 pub mod WellFormed
 pub mod Views

@@ -9,6 +9,7 @@ use Rattle.cml_hub.specs.Runs.{terminal}
 use Rattle.cml_facts.specs.declared.ending.awaited.Named.{Named}
 use Rattle.cml_facts.specs.Waits.{who_is}
 use Rattle.cml_facts.specs.Turns.{began_in}
+use Rattle.cml_picture.specs.Holds.{all_held}
 use Rattle.cml_picture.specs.Stacks.{PlainStack, thread_count}
 use Rattle.cml_picture.specs.Parts.{acts, takes_part}
 use Rattle.cml_picture.specs.Sheets.{PlainLeft, PlainSheet}
@@ -39,6 +40,7 @@ lefts began is_shown threads (suc t) =
 abbrev pub with_lines : PlainCourse → List Item → ℕ → ℕ → PlainStack → PlainSheet
 with_lines c items count before s = record {
   stack = s;
+  held = all_held s.shown;
   beginnings = beginnings (began_in c) (acts items) before;
   left = lefts (began_in c) (takes_part before items) c.world.threads (thread_count c);
   quiet = terminal c.world;

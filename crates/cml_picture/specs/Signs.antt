@@ -1,4 +1,4 @@
--- How what an item did is seen: an arrow for a value that goes over, two for a swap; a dot for an event that is taken alone; nacks that fire; a
+-- How what an item did is seen: an arrow for a value that goes over, two for a swap; a diamond for an item that is fed; a dot for an event that is taken alone; nacks that fire; a
 -- thread that begins; what is printed; the end of a thread, by itself or at a fault; and a move of the time. Other turns are not seen.
 use Rattle.std.specs.Prelude.{ℕ, Bool, true, false, if◌then◌else◌, List, [], ◌∷◌, ◌++◌, Option, Some, None}
 use Rattle.cml_value.specs.declared.number.NackId.{NackId}
@@ -14,7 +14,9 @@ use Rattle.cml_facts.specs.declared.narrative.deed.Came.TheVariants.{Done, Waits
 use Rattle.cml_facts.specs.declared.narrative.deed.Party.{Party}
 use Rattle.cml_picture.specs.declared.layout.mark.Shape.{Shape}
 use Rattle.cml_picture.specs.declared.layout.mark.Shape.TheVariants as shape
+use Rattle.cml_picture.specs.declared.sheet.feed.Store.{Store}
 use Rattle.cml_picture.specs.declared.sheet.sign.Sign.{Sign}
+use Rattle.cml_picture.specs.Feeds.{store_asked}
 
 -- of one thread
 abbrev pub own_sign : Shape → ℕ → Sign
@@ -24,12 +26,17 @@ own_sign s t = record { shape = s; thread = t; other = t }
 abbrev pub led_sign : Shape → ℕ → ℕ → Sign
 led_sign s t u = record { shape = s; thread = t; other = u }
 
+-- what it asked that feeds something
+abbrev pub fed_sign : ℕ → Option Store → Option Sign
+fed_sign t None = None
+fed_sign t (Some s) = Some (own_sign shape.Fed t)
+
 -- what a thread asked that was done, with the number of what was made
 abbrev pub done_sign : ℕ → Ask → ℕ → Option Sign
 done_sign t (ask.Spawn f) n = Some (led_sign shape.Spawn t n)
 done_sign t (ask.Print v) n = Some (own_sign shape.Print t)
 done_sign t ask.End n = Some (own_sign shape.End t)
-done_sign t a n = None
+done_sign t a n = fed_sign t (store_asked a)
 
 abbrev pub came_sign : ℕ → Ask → Came → Option Sign
 came_sign t a (Done n) = done_sign t a n

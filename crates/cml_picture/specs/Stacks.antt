@@ -1,13 +1,17 @@
 -- Rows, one below the other.
 use Rattle.std.specs.Prelude.{ℕ, ◌+◌, ◌<◌, ◌⊎◌, length, List, [], ◌∷◌, ◌++◌}
 use Rattle.std.specs.List.{fold}
+use Rattle.std.specs.Option.{option_to_list}
+use Rattle.cml_scan.specs.World.{PlainWorld}
 use Rattle.cml_hub.specs.Courses.{PlainCourse}
 use Rattle.cml_facts.specs.declared.narrative.deed.Happened.{Happened}
 use Rattle.cml_picture.specs.declared.layout.mark.Shape.{Shape}
 use Rattle.cml_picture.specs.declared.layout.mark.Shape.TheVariants.{Print, Nack}
 use Rattle.cml_picture.specs.declared.fault.DrawFault.{DrawFault}
 use Rattle.cml_picture.specs.declared.fault.DrawFault.TheVariants.{BadItem, TooMany, Memory}
+use Rattle.cml_picture.specs.declared.sheet.feed.Fed.{Fed}
 use Rattle.cml_picture.specs.declared.sheet.sign.Sign.{Sign}
+use Rattle.cml_picture.specs.Feeds.{fed_by}
 use Rattle.cml_picture.specs.Layouts.{row_height, top_row}
 use Rattle.cml_picture.specs.Signs.{signs_of}
 
@@ -36,23 +40,30 @@ bottom_with bottom x = bottom_below bottom (signs_of x.deed)
 abbrev pub bottom_of : List Happened → ℕ
 bottom_of shown = fold bottom_with top_row shown
 
--- what the items did so far that show something, how far below the top the next row begins, and how many rows were counted
+-- what the items did so far that show something, which of them took what another one had fed, how far below the top the next row begins, and
+-- how many rows were counted
 pub record PlainStack : Type 0 where
   pub shown : List Happened
+  pub fed : List Fed
   pub bottom : ℕ
   pub rows : ℕ
 
 abbrev pub no_rows : PlainStack
-no_rows = record { shown = []; bottom = top_row; rows = 0 }
+no_rows = record { shown = []; fed = []; bottom = top_row; rows = 0 }
 
 -- an item that is not seen is not there
 abbrev pub listed : Happened → List Sign → List Happened
 listed x [] = []
 listed x (sign ∷ signs) = x ∷ []
 
--- what one item more did
-unfoldable pub with_happened : PlainStack → Happened → PlainStack
-with_happened s x = record { shown = s.shown ++ listed x (signs_of x.deed); bottom = bottom_with s.bottom x; rows = count_with s.rows (signs_of x.deed) }
+-- what one item more did, which led to this world
+unfoldable pub with_happened : PlainWorld → PlainStack → Happened → PlainStack
+with_happened w s x = record {
+  shown = s.shown ++ listed x (signs_of x.deed);
+  fed = s.fed ++ option_to_list (fed_by w s.shown x);
+  bottom = bottom_with s.bottom x;
+  rows = count_with s.rows (signs_of x.deed);
+}
 
 -- how many rows a picture has at most, and how far down they go
 abbrev pub row_limit : ℕ

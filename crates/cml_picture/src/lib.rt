@@ -9,7 +9,7 @@ mod whole;
 mod words;
 
 pub use fault::DrawFault;
-pub use layout::{Mark, Shape};
-pub use sheet::{Left, Sheet, Sign, Stack, sheet_of};
+pub use layout::{Link, Mark, Shape};
+pub use sheet::{Fed, Held, Left, Sheet, Sign, Stack, sheet_of};
 pub use svg::chart_of;
 pub use whole::{draw, picture_of};

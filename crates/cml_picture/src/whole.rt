@@ -7,7 +7,7 @@ ghost use Rattle.cml_picture.specs.{Draws.{Draws, IsNotDrawn}, WellFormed.{IsWel
 use crate::fault::DrawFault;
 use crate::sheet::{Sheet, sheet_of};
 use crate::svg::chart_of;
-use crate::words::Speaker;
+use crate::words::{Speaker, links_of};
 use cml_hub::{Hub, Item};
 use cml_text::Sexpr;
 use std::alloc::{AllocError, Global};
@@ -28,9 +28,12 @@ pub fn picture_of(
         alloc,
         forms,
         items: sheet.items,
+        left: sheet.left.as_slice(),
     };
     let marks = speaker.marks_of(sheet)?;
-    chart_of(alloc, name, sheet.threads, marks.as_slice())
+    let marks = marks.as_slice();
+    let links = links_of(alloc, marks, sheet)?;
+    chart_of(alloc, name, sheet.threads, marks, links.as_slice())
 }
 
 /// The picture of the items of a schedule from one number on, up to another, counted from 1, as an SVG 1.1 file of this name: of what

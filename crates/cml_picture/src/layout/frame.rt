@@ -116,7 +116,7 @@ fn edges_from(alloc: Global, start: u64, columns: &[u16]) -> Result<Vec<u64>, Al
 
 /// How far below the top of the picture a mark stands.
 pub(crate) fn level_of(mark: &Mark) -> u64
-    ensures { result ≤ mark.now.at + spec.row_height mark.now.shape }
+    ensures { result ≡ spec.level_of mark.now }
 {
     u64::from(mark.at) + u64::from(row_drop(mark.shape))
 }

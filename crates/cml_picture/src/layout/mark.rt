@@ -15,6 +15,8 @@ pub enum Shape {
     Spawn,
     /// A value that goes from one thread to another.
     Arrow,
+    /// An item that a thread feeds to a variable, a mailbox or a multicast channel.
+    Fed,
     /// An event that a thread takes alone.
     Dot,
     /// A move of the clock.
@@ -69,6 +71,7 @@ pub(crate) fn row_height(shape: Shape) -> u32
 
 /// How far below the top of its row a mark stands.
 pub(crate) fn row_drop(shape: Shape) -> u32
+    ensures drop { result ≡ spec.row_drop shape }
     ensures inside { result ≤ spec.row_height shape }
 {
     match shape {

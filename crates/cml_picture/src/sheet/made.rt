@@ -7,6 +7,7 @@ ghost use Rattle.cml_picture.specs.{Draws.{IsNotDrawn, IsSheet}, Views.{plain_sh
 ghost use Rattle.cml_picture.specs.Lives as spec;
 
 use super::flags::flags_of;
+use super::hold::{Held, holds_of};
 use super::left::{Left, beginnings_of, is_quiet, lefts_of};
 use super::shown::{items_within, show_range};
 use super::stack::Stack;
@@ -17,11 +18,12 @@ use cml_hub::{Hub, Item};
 use cml_text::Sexpr;
 use std::alloc::{AllocError, Global};
 
-/// What a picture shows: what the items did, the threads whose lines begin at the top, those that have not ended, whether nothing can
-/// happen any more, how many threads there are, and how many items the schedule has.
+/// What a picture shows: what the items did, which M-variables threads held, the threads whose lines begin at the top, those that have not
+/// ended, whether nothing can happen any more, how many threads there are, and how many items the schedule has.
 #[derive(Drop)]
 pub struct Sheet {
     pub stack: Stack,
+    pub held: Vec<Held>,
     pub beginnings: Vec<Named>,
     pub left: Vec<Left>,
     pub is_quiet: bool,
@@ -45,8 +47,10 @@ fn with_lines(
     let flags = flags_of(alloc, known, items)?;
     let beginnings = beginnings_of(alloc, hub, flags.as_slice(), before)?;
     let left = lefts_of(alloc, hub, flags.as_slice(), before)?;
+    let held = holds_of(alloc, stack.shown.as_slice())?;
     Ok(Sheet {
         stack,
+        held,
         beginnings,
         left,
         is_quiet: is_quiet(hub),

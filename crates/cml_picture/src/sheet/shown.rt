@@ -108,7 +108,7 @@ fn show_item(
     ensures none_out { NoneOut hub.new }
 {
     match narrator.tell(alloc, hub, item)? {
-        Some(happened) => stack.add(alloc, happened),
+        Some(happened) => stack.add(alloc, hub, happened),
         None => Err(unfit(hub)),
     }
 }

@@ -1,8 +1,10 @@
 //! How what an item did is seen: the marks of a picture, without their words.
 
 ghost use Rattle.std.specs.Prelude.{◌≡◌, ◌++◌, ◌∷◌, [], IfOk, OnOk};
+ghost use Rattle.cml_picture.specs.Feeds.{store_asked};
 ghost use Rattle.cml_picture.specs.Signs as spec;
 
+use super::feed::store_asked;
 use crate::layout::Shape;
 use cml_facts::narrative::{Came, Deed, Party, Took, Turned};
 use cml_step::Ask;
@@ -28,6 +30,16 @@ fn own_sign(shape: Shape, thread: u32) -> Sign
     }
 }
 
+// What is seen of an ask that feeds something.
+fn fed_sign(thread: u32, ask: &Ask) -> Option<Sign>
+    ensures { result ≡ spec.fed_sign thread (store_asked ask.now) }
+{
+    match store_asked(ask) {
+        Some(_) => Some(own_sign(Shape::Fed, thread)),
+        None => None,
+    }
+}
+
 // What is seen of an ask that was done.
 fn done_sign(thread: u32, ask: &Ask, number: u64) -> Option<Sign>
     ensures { result ≡ spec.done_sign thread ask.now number }
@@ -40,7 +52,7 @@ fn done_sign(thread: u32, ask: &Ask, number: u64) -> Option<Sign>
         }),
         Ask::Print(_) => Some(own_sign(Shape::Print, thread)),
         Ask::End => Some(own_sign(Shape::End, thread)),
-        _ => None,
+        _ => fed_sign(thread, ask),
     }
 }
 

@@ -3,12 +3,15 @@
 ghost use Rattle.std.specs.Prelude.{◌≡◌, ◌≤◌};
 ghost use Rattle.cml_picture.specs.Stacks.{bottom_of};
 
+use super::feed::Fed;
 use cml_facts::narrative::Happened;
 
-/// What the items did so far that show something, how far below the top the next row begins, and how many rows were counted.
+/// What the items did so far that show something, which of them took what another one had fed, how far below the top the next row begins,
+/// and how many rows were counted.
 #[derive(Drop)]
 pub struct Stack {
     pub shown: Vec<Happened>,
+    pub fed: Vec<Fed>,
     pub bottom: u32,
     pub rows: u32,
     pub ghost low: { bottom ≤ 1000000000 },

@@ -1,14 +1,16 @@
 //! Rows, one below the other.
 
-ghost use Rattle.std.specs.Prelude.{◌≡◌, ◌≤◌, ◌++◌, IfErr, IfOk, OnErr, OnOk};
+ghost use Rattle.std.specs.{Prelude.{◌≡◌, ◌≤◌, ◌++◌, IfErr, IfOk, OnErr, OnOk}, Option.{option_to_list}};
 ghost use Rattle.cml_picture.specs.Views.{plain_stack};
 ghost use Rattle.cml_picture.specs.Stacks as spec;
 
+use super::feed::{Fed, fed_by};
 use super::sign::{Sign, signs_of};
 use super::stack::Stack;
 use crate::fault::DrawFault;
 use crate::layout::{Shape, row_height};
 use cml_facts::narrative::Happened;
+use cml_hub::Hub;
 use std::alloc::{AllocError, Global};
 
 // How many rows a picture has at most.
@@ -62,6 +64,16 @@ fn list_shown(all: &mut Vec<Happened>, happened: Happened, signs: &[Sign]) -> Re
     }
 }
 
+// Adds what an item took that another one had fed, if it did.
+fn list_fed(all: &mut Vec<Fed>, fed: Option<Fed>) -> Result<(), AllocError>
+    ensures { OnOk result (all.new.items ≡ all.old.items ++ option_to_list fed) }
+{
+    match fed {
+        Some(fed) => Ok(all.push(fed)?),
+        None => Ok(()),
+    }
+}
+
 impl Stack {
     /// No rows.
     pub(crate) fn new(alloc: Global) -> Stack
@@ -69,23 +81,31 @@ impl Stack {
     {
         Stack {
             shown: Vec::new(alloc),
+            fed: Vec::new(alloc),
             bottom: 40,
             rows: 0,
         }
     }
 
-    /// Adds what an item did.
+    /// Adds what an item did; the hub stands behind it.
     ///
     /// # Errors
     /// There would be too many rows, or they would go too far down; or out of memory.
     #[tactic(auto, using(crate::proofs::StackLemmas::bottom_more), unfolding(crate::specs::Stacks::with_happened))]
-    pub(crate) fn add(&mut self, alloc: Global, happened: Happened) -> Result<(), DrawFault>
+    pub(crate) fn add(
+        &mut self,
+        alloc: Global,
+        hub: &Hub,
+        happened: Happened,
+    ) -> Result<(), DrawFault>
         ensures added { OnOk result (plain_stack self.new
-            ≡ spec.with_happened (plain_stack self.old) happened) }
-        ensures refused { IfErr result (λ why. spec.RefusesShown (spec.with_happened (plain_stack self.old) happened) why) }
+            ≡ spec.with_happened hub.now.course.world (plain_stack self.old) happened) }
+        ensures refused { IfErr result (λ why. spec.RefusesShown (spec.with_happened hub.now.course.world (plain_stack self.old) happened) why) }
     {
         let signs = signs_of(alloc, &happened.deed)?;
+        let fed = fed_by(alloc, hub, self.shown.as_slice(), &happened)?;
         let (bottom, rows) = grown(self.bottom, self.rows, signs.as_slice())?;
+        list_fed(&mut self.fed, fed)?;
         list_shown(&mut self.shown, happened, signs.as_slice())?;
         self.bottom = bottom;
         self.rows = rows;

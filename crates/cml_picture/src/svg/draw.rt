@@ -2,7 +2,7 @@
 
 use super::content::Content;
 use super::xml::Attribute;
-use crate::layout::{Frame, Mark, Shape, level_of, line_from_left, row_height, seat_of};
+use crate::layout::{Frame, Link, Mark, Shape, level_of, line_from_left, row_height, seat_of};
 use std::alloc::{AllocError, Global};
 
 /// What draws marks in a frame.
@@ -35,6 +35,7 @@ fn sign_class(shape: Shape) -> &'static str {
         Shape::Spawn | Shape::Runs => "life",
         Shape::Arrow | Shape::Dot | Shape::Nack => "solid",
         Shape::End | Shape::Fault => "bar",
+        Shape::Fed => "arrow",
         Shape::Waits => "waits",
         Shape::Stuck => "stuck",
         _ => "",
@@ -47,6 +48,7 @@ fn sign_path(shape: Shape, from_left: bool) -> &'static str {
         Shape::Spawn => "m-7-4l7 4l-7 4",
         Shape::Arrow if from_left => "l-9-4v8z",
         Shape::Arrow => "l9-4v8z",
+        Shape::Fed => "m-5 0l5-5l5 5l-5 5z",
         Shape::Dot => "m-4 0a4 4 0 1 0 8 0a4 4 0 1 0-8 0z",
         Shape::Nack => "m-4-4h8l-4 8z",
         Shape::End => "m-7 0h14",
@@ -91,7 +93,7 @@ impl Pen<'_> {
     }
 
     // Adds a path of this class.
-    fn add_path<'x>(
+    pub(crate) fn add_path<'x>(
         &self,
         out: &mut Content,
         class: &'x str,
@@ -259,6 +261,34 @@ impl Pen<'_> {
         let mut inner = Content::new(self.alloc);
         self.add_parts(&mut inner, mark)?;
         out.add_element(self.alloc, "g", &[], &inner)?;
+        out.add_words(self.alloc, b"\n")
+    }
+
+    // Adds the arrow from an item that was fed, whose sign it fills, to the one that took it.
+    fn add_fed(&self, out: &mut Content, link: Link) -> Result<(), AllocError> {
+        let (from, at) = (self.column(link.thread), link.at);
+        let (to, below) = (self.column(link.other), link.below);
+        let sign = sign_path(Shape::Fed, true);
+        let filled = format!(in self.alloc; "M{from} {at}{sign}")?;
+        self.add_path(out, "solid", filled.as_str())?;
+        let line = format!(in self.alloc; "M{from} {at}L{to} {below}")?;
+        self.add_path(out, "fed", line.as_str())
+    }
+
+    // Adds the bar along which a thread holds something.
+    fn add_held(&self, out: &mut Content, link: Link) -> Result<(), AllocError> {
+        let (x, at, below) = (self.column(link.thread), link.at, link.below);
+        let bar = format!(in self.alloc; "M{x} {at}V{below}")?;
+        self.add_path(out, "held", bar.as_str())
+    }
+
+    /// Adds a line between marks.
+    pub(crate) fn add_link(&self, out: &mut Content, link: Link) -> Result<(), AllocError> {
+        if link.is_held {
+            self.add_held(out, link)?;
+        } else {
+            self.add_fed(out, link)?;
+        }
         out.add_words(self.alloc, b"\n")
     }
 

@@ -6,12 +6,12 @@ ghost use Rattle.cml_picture.specs.WellFormed.{IsWellFormed};
 use super::content::Content;
 use super::draw::Pen;
 use super::xml::{Attribute, file_of};
-use crate::layout::{Mark, frame_of};
+use crate::layout::{Link, Mark, frame_of};
 use std::alloc::{AllocError, Global};
 
 // How each class looks: black on white, and what is lost in red and bold.
 const STYLE: &[u8] =
-    b"svg{background:#fff}text{font:11px monospace}path{fill:none;stroke:#000}.head{font-weight:bold}.note{fill:#555;text-anchor:end}.print{fill:#333;font-style:italic}.lost{fill:#c00;font-weight:bold}.cover{stroke:none;pointer-events:all}.life{stroke:#777}.spawn{stroke-width:.8;stroke-dasharray:2 2}.tick{stroke:#777;stroke-dasharray:7 5}.arrow{stroke-width:1.5}.solid{fill:#000;stroke:none}.bar{stroke-width:3}.waits{fill:#fff;stroke-width:1.5}.stuck{fill:#fff;stroke:#c00;stroke-width:3}";
+    b"svg{background:#fff}text{font:11px monospace}path{fill:none;stroke:#000}.head{font-weight:bold}.note{fill:#555;text-anchor:end}.print{fill:#333;font-style:italic}.lost{fill:#c00;font-weight:bold}.cover{stroke:none;pointer-events:all}.life{stroke:#777}.spawn{stroke-width:.8;stroke-dasharray:2 2}.tick{stroke:#777;stroke-dasharray:7 5}.arrow{stroke-width:1.5}.fed{stroke:#777;marker-end:url(#tip)}.held{stroke-width:7;opacity:.3}.solid{fill:#000;stroke:none}.bar{stroke-width:3}.waits{fill:#fff;stroke-width:1.5}.stuck{fill:#fff;stroke:#c00;stroke-width:3}";
 
 impl Pen<'_> {
     // Adds how each class looks.
@@ -26,11 +26,58 @@ impl Pen<'_> {
         out.add_words(self.alloc, b"\n")
     }
 
-    // Adds the lines of the threads, and the marks over them.
-    fn add_marks(&self, out: &mut Content, marks: &[Mark]) -> Result<(), AllocError> {
+    // Adds the tip of the arrows from items that were fed, short of the sign at which they end.
+    fn add_tip(&self, out: &mut Content) -> Result<(), AllocError> {
+        let mut inner = Content::new(self.alloc);
+        self.add_path(&mut inner, "solid", "M0 0l8 4l-8 4z")?;
+        let attributes = [
+            Attribute {
+                name: "id",
+                value: b"tip",
+            },
+            Attribute {
+                name: "refX",
+                value: b"12",
+            },
+            Attribute {
+                name: "refY",
+                value: b"4",
+            },
+            Attribute {
+                name: "markerWidth",
+                value: b"8",
+            },
+            Attribute {
+                name: "markerHeight",
+                value: b"8",
+            },
+            Attribute {
+                name: "orient",
+                value: b"auto",
+            },
+        ];
+        out.add_element(self.alloc, "marker", &attributes, &inner)?;
+        out.add_words(self.alloc, b"\n")
+    }
+
+    // Adds these lines between marks.
+    fn add_links(&self, out: &mut Content, links: &[Link]) -> Result<(), AllocError> {
+        for link in links {
+            self.add_link(out, *link)?;
+        }
+        Ok(())
+    }
+
+    // Adds the lines of the threads.
+    fn add_lives(&self, out: &mut Content, marks: &[Mark]) -> Result<(), AllocError> {
         for mark in marks {
             self.add_ended(out, mark)?;
         }
+        Ok(())
+    }
+
+    // Adds the marks.
+    fn add_marks(&self, out: &mut Content, marks: &[Mark]) -> Result<(), AllocError> {
         for mark in marks {
             self.add_mark(out, mark)?;
         }
@@ -38,10 +85,18 @@ impl Pen<'_> {
     }
 
     // What is in a picture of this name.
-    fn content_of(&self, name: &str, marks: &[Mark]) -> Result<Content, AllocError> {
+    fn content_of(
+        &self,
+        name: &str,
+        marks: &[Mark],
+        links: &[Link],
+    ) -> Result<Content, AllocError> {
         let mut inner = Content::new(self.alloc);
         self.add_title(&mut inner, name.as_bytes())?;
         self.add_style(&mut inner)?;
+        self.add_tip(&mut inner)?;
+        self.add_lives(&mut inner, marks)?;
+        self.add_links(&mut inner, links)?;
         self.add_marks(&mut inner, marks)?;
         Ok(inner)
     }
@@ -92,7 +147,7 @@ impl Pen<'_> {
     }
 }
 
-/// A picture of this name, of so many threads, with these marks, as an SVG 1.1 file. It is well-formed whatever the marks are. Nothing
+/// A picture of this name, of so many threads, with these marks, and with these lines below them, as an SVG 1.1 file. It is well-formed whatever the marks are. Nothing
 /// overlaps where each thread that has marks has one at which its line begins and one at which it ends, where the rows of marks stand one
 /// below the other, and where no words are longer than 100 cells.
 ///
@@ -103,6 +158,7 @@ pub fn chart_of(
     name: &str,
     threads: u32,
     marks: &[Mark],
+    links: &[Link],
 ) -> Result<Vec<u8>, AllocError>
     ensures { IfOk result (λ text. ∥ IsWellFormed text.items ∥₁) }
 {
@@ -111,6 +167,6 @@ pub fn chart_of(
         alloc,
         frame: &frame,
     };
-    let inner = pen.content_of(name, marks)?;
+    let inner = pen.content_of(name, marks, links)?;
     pen.file(&inner)
 }

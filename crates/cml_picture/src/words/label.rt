@@ -1,12 +1,12 @@
 //! What stands beside marks.
 
 use crate::layout::Shape;
-use crate::sheet::Sign;
+use crate::sheet::{Left, Sign};
 use cml_facts::ending::{Named, push_named};
 use cml_facts::narrative::{Came, Deed, Happened, Met, Took, Turned, push_happened};
 use cml_group::Chosen;
 use cml_phrase::{
-    ObjectState, Told, push_began, push_event, push_first, push_numbered, push_value,
+    ObjectState, Told, Who, push_began, push_event, push_first, push_numbered, push_value,
 };
 use cml_step::Ask;
 use cml_text::Sexpr;
@@ -18,12 +18,14 @@ const WORD_LIMIT: usize = 40;
 
 const BEGINNING_LIMIT: usize = 20;
 
-/// What speaks of a program of these forms, and of a schedule of so many items.
+/// What speaks of a program of these forms, of a schedule of so many items, and of threads that have not ended, in the order of their
+/// numbers.
 #[derive(Clone, Copy)]
 pub(crate) struct Speaker<'a> {
     pub(crate) alloc: Global,
     pub(crate) forms: &'a [Sexpr],
     pub(crate) items: usize,
+    pub(crate) left: &'a [Left],
 }
 
 impl Speaker<'_> {
@@ -58,13 +60,26 @@ impl Speaker<'_> {
         Ok(words)
     }
 
+    // The thread for whose end a base event waits, if it is one of those that have not ended.
+    fn behind(&self, base: &Base) -> Option<Who<'_>> {
+        let BaseKind::Join(thread) = base.kind() else {
+            return None;
+        };
+        let thread = thread.0;
+        let at = self.left.partition_point(|l| l.named.thread < thread);
+        match self.left.get(at) {
+            Some(left) if left.named.thread == thread => Some(left.named.who()),
+            _ => None,
+        }
+    }
+
     /// A base event by itself.
     pub(crate) fn event(&self, base: &Base) -> Result<Vec<u8>, AllocError> {
         let mut words = Vec::new(self.alloc);
         let told = Told {
             base,
             state: ObjectState::Unsaid,
-            who: None,
+            who: self.behind(base),
         };
         push_event(self.alloc, &mut words, self.forms, told)?;
         Ok(words)
@@ -88,6 +103,17 @@ impl Speaker<'_> {
         }
     }
 
+    // What an ask feeds, and to what.
+    fn fed(&self, ask: &Ask) -> Result<Vec<u8>, AllocError> {
+        match ask {
+            Ask::IPut(ivar, value) => self.over(b"I-variable ", ivar.0, value),
+            Ask::MPut(mvar, value) => self.over(b"M-variable ", mvar.0, value),
+            Ask::Mail(mailbox, value) => self.over(b"mailbox ", mailbox.0, value),
+            Ask::Multicast(channel, value) => self.over(b"multicast channel ", channel.0, value),
+            _ => Ok(Vec::new(self.alloc)),
+        }
+    }
+
     // What stands beside the mark of a turn.
     fn turned(&self, turned: &Turned) -> Result<Vec<u8>, AllocError> {
         match &turned.came {
@@ -96,12 +122,12 @@ impl Speaker<'_> {
             Came::Done(number) => match &turned.ask {
                 Ask::Spawn(function) => self.beginning(*number, Some(function)),
                 Ask::Print(value) => self.printed(value),
-                _ => Ok(Vec::new(self.alloc)),
+                ask => self.fed(ask),
             },
         }
     }
 
-    // A value that goes over a channel of this kind and number.
+    // A value that goes over an object of this kind and number.
     fn over(&self, kind: &[u8], number: u32, value: &Value) -> Result<Vec<u8>, AllocError> {
         let mut words = Vec::new(self.alloc);
         push_numbered(self.alloc, &mut words, kind, u64::from(number))?;

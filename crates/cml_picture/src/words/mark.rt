@@ -113,7 +113,7 @@ impl Speaker<'_> {
         Ok(marks.push(mark)?)
     }
 
-    // Adds words of a thread without a title.
+    // Adds words of a thread, which are their own title.
     fn add_bare(
         &self,
         marks: &mut Vec<Mark>,
@@ -122,9 +122,9 @@ impl Speaker<'_> {
         at: u32,
         words: &[u8],
     ) -> Result<(), AllocError> {
+        let title = Vec::from_slice(self.alloc, words)?;
         let words = Vec::from_slice(self.alloc, words)?;
-        let mark = own_mark(shape, thread, at, words, Vec::new(self.alloc));
-        Ok(marks.push(mark)?)
+        Ok(marks.push(own_mark(shape, thread, at, words, title))?)
     }
 
     // Adds a base event for which a thread waits.

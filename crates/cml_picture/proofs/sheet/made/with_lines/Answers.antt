@@ -1,5 +1,6 @@
-use Rattle.std.proofs.Common.{◌≡◌, ◌≤◌, ◌∙◌, map, arith, refl}
+use Rattle.std.proofs.Common.{◌≡◌, ◌≤◌, ◌∙◌, map, ap, arith, refl}
 use Rattle.cml_facts.specs.Turns.{began_in}
+use Rattle.cml_picture.specs.Holds.{all_held}
 use Rattle.cml_picture.specs.Lives.{beginnings, lefts}
 use Rattle.cml_picture.specs.Parts.{acts, takes_part}
 use Rattle.cml_picture.specs.Stacks.{thread_count}
@@ -21,4 +22,5 @@ returns c =
     let stay : map plain_left c.in_ok-left.left.items ≡ lefts (began_in course) (takes_part c.args.before c.args.items.now) course.world.threads (thread_count course) =
     last ∙ lefts_are (began_in course) c.args.items.now c.args.before c.in_ok-flags.flags.items course.world.threads known (thread_count course) all c.in_ok-flags.ensures in
     let count : c.next_thread-2.result.0 ≡ thread_count course = rw c.book-2.ensures at c.next_thread-2.ensures in
-    rw (begun, stay, c.is_quiet.ensures, count) refl
+    let kept : c.in_ok-held.held.items ≡ all_held c.args.stack.shown.items = c.in_ok-held.ensures ∙ ap all_held c.as_slice-3.ensures.value in
+    rw (begun, stay, c.is_quiet.ensures, count, kept) refl
