@@ -1,15 +1,14 @@
 -- How every schedule's outcome is told, one thing after another.
-use Rattle.std.proofs.Common.{◌≡◌, ◌∙◌, ℕ, zero, suc, ◌+◌, ◌<◌, true, List, [], ◌∷◌, ◌++◌, length, map, take, get_or, codes, refl, sym, ap, arith, append_assoc, append-nil, add-zero}
-use Rattle.std.specs.Prelude.{Option, Some, None, Vec}
+use Rattle.std.proofs.Common.{◌≡◌, ◌∙◌, ℕ, suc, ◌+◌, ◌<◌, true, List, [], ◌∷◌, ◌++◌, length, map, take, get_or, codes, refl, sym, ap, arith, append_assoc, append-nil, add-zero}
+use Rattle.std.specs.Prelude.{Option, Some, None}
 use Rattle.std.specs.Fmt.{decimal}
-use Rattle.std.specs.declared.alloc.Global.{Global}
-use Rattle.std.proofs.lemmas.List.{flat_map_more, length-map, length-take-le, map_push, take_more}
+use Rattle.std.proofs.lemmas.List.{length-map, length-take-le, map_push, take_more}
 use Rattle.cml_arguments.specs.Words.{saved_name}
 use Rattle.cml_check.specs.Sizes.{size_of}
 use Rattle.cml_check.specs.Syntax.{Name, PlainItem}
 use Rattle.cml_schedule.specs.Written.{schedule_text}
 use Rattle.cml_schedule.specs.declared.item.Item.{Item}
-use Rattle.cml_host.specs.Json.{behind_comma, commas}
+use Rattle.cml_json.specs.Json.{truth}
 use Rattle.cml_host.specs.Outcomes.{PlainOutcomeTold, files_of, outcome_file, plain_outcome_told, search_line}
 use Rattle.cml_host.specs.Replies.{File, file, plain_file}
 use Rattle.cml_host.specs.declared.outcomes.OutcomeTold.{OutcomeTold}
@@ -17,25 +16,6 @@ use Rattle.cml_host.specs.declared.reply.File as code
 
 some_same : {X : Type 0} (x y : X) → Some x ≡ Some y → x ≡ y
 some_same x y h = cc
-
--- ---- texts of JSON
-
-comma_pushed : (texts : List (List ℕ)) (i : ℕ) (one : List ℕ) → length texts ≡ i → commas (texts ++ one ∷ []) ≡ commas texts ++ behind_comma i one
-comma_pushed [] zero one long = append-nil one
-comma_pushed [] (suc i) one long = absurd (omega (arith, long))
-comma_pushed (first ∷ texts) zero one long = absurd (omega (arith, long))
-comma_pushed (first ∷ texts) (suc i) one long = sym (flat_map_more (λ y. codes "," ++ y) first texts one)
-
--- one text more of a list
-pub array_next : (start old new : List ℕ) (texts : List (Vec ℕ Global)) (i : ℕ) (d : Vec ℕ Global) (one : List ℕ) → i < length texts → one ≡ (get_or texts i d).items
-    → old ≡ start ++ commas (map (λ t. t.items) (take i texts)) → new ≡ old ++ behind_comma i one → new ≡ start ++ commas (map (λ t. t.items) (take (i + 1) texts))
-array_next start old new texts i d one within is was more =
-    let before = map (λ (t : Vec ℕ Global). t.items) (take i texts) in
-    let long : length before ≡ i = length-map (take i texts) (λ (t : Vec ℕ Global). t.items) ∙ length-take-le i texts (omega arith) in
-    let split : map (λ (t : Vec ℕ Global). t.items) (take (i + 1) texts) ≡ before ++ one ∷ [] =
-    ap (map (λ (t : Vec ℕ Global). t.items)) (take_more texts i d within) ∙ (map_push (λ (t : Vec ℕ Global). t.items) (take i texts) (get_or texts i d) ∙ ap (λ b. before ++ b ∷ []) (sym is)) in
-    more ∙ (ap (λ t. t ++ behind_comma i one) was ∙ (append_assoc start (commas before) (behind_comma i one)
-    ∙ (ap (λ t. start ++ t) (sym (comma_pushed before i one long)) ∙ sym (ap (λ ts. start ++ commas ts) split))))
 
 closed : (one two : List ℕ) → one ++ (two ++ 125 ∷ 10 ∷ []) ≡ ((one ++ two) ++ 125 ∷ []) ++ 10 ∷ []
 closed one two = sym (append_assoc (one ++ two) (125 ∷ []) (10 ∷ []) ∙ append_assoc one two (125 ∷ 10 ∷ []))
@@ -45,11 +25,13 @@ closed_more one two three = simp (append_assoc, append-nil) refl
 
 -- the line of a search, as it is written
 pub search_whole : (states : ℕ) (reach : Option ℕ) → reach ≡ None → codes "{\"states\":" ++ decimal states ++ codes ",\"whole\":true}\n" ≡ search_line states reach
+unfolding truth
 search_whole states None is = ap (λ t. codes "{\"states\":" ++ t) (closed (decimal states) (codes ",\"whole\":true"))
 search_whole states (Some items) is = absurd (cc)
 
 pub search_part : (states items : ℕ) (reach : Option ℕ) → reach ≡ Some items
     → codes "{\"states\":" ++ (decimal states ++ (codes ",\"whole\":false,\"items\":" ++ (decimal items ++ codes "}\n"))) ≡ search_line states reach
+unfolding truth
 search_part states items None is = absurd (cc)
 search_part states items (Some n) is =
     ap (λ t. codes "{\"states\":" ++ t) (closed_more (decimal states) (codes ",\"whole\":false,\"items\":") (decimal items))

@@ -13,6 +13,7 @@ use Rattle.cml_explore.specs.declared.explored.Asked.{Asked}
 use Rattle.cml_explore.specs.declared.explored.Until.{Until}
 use Rattle.cml_explore.specs.declared.told.ClassTold.{ClassTold}
 use Rattle.cml_explore.specs.declared.told.RunsTold.{RunsTold}
+use Rattle.cml_json.specs.Explored.{explore_json}
 use Rattle.cml_phrase.specs.Spots.{all_places}
 use Rattle.cml_explore.specs.declared.explored.Until.TheVariants as stop
 use Rattle.cml_properties.specs.declared.property.Property.{Property}
@@ -154,18 +155,23 @@ judged well = if well then 0 else 6
 abbrev pub saved_start : ExploreOptions → Option Name
 saved_start options = option_map (λ start. start.now) options.save
 
+-- with `--json` this is written of what is told
+abbrev pub RunsWritten : ExploreOptions → PlainScript → List Property → RunsTold → List ℕ → Type 0
+RunsWritten options s properties told text = options.json ≡ true → text ≡ explore_json options.script.now s.forms properties told
+
 -- This is told of what was made; the files that are asked for are saved; and the status says whether all runs ended well.
-abbrev pub TellsRuns : Option Name → ℕ → PlainScript → Asked → PlainExplored → PlainReply → Type 0
-TellsRuns start budget s asked made reply =
+abbrev pub TellsRuns : ExploreOptions → PlainScript → Asked → PlainExplored → PlainReply → Type 0
+TellsRuns options s asked made reply =
     ((told : RunsTold) × IsToldOfRuns (all_places s.text s.forms) s.program asked made told
-    × (reply.files ≡ files_told start budget s.program made.classes told))
+    × (reply.files ≡ files_told (saved_start options) options.steps s.program made.classes told)
+    × RunsWritten options s asked.wanted.properties.now told reply.output)
     × (reply.words ≡ []) × (reply.status ≡ judged made.well)
 
 -- the runs that the arguments ask for were made, and are told of; or memory ran out
 abbrev pub HasToldRuns : ExploreOptions → PlainScript → List Property → List ℕ → PlainReply → Type 0
 HasToldRuns options s properties servers reply =
     ((asked : Asked) × AsksForRuns options properties servers asked × IsBeside s.program asked
-    × ((made : PlainExplored) × IsExplored s.program asked made × TellsRuns (saved_start options) options.steps s asked made reply))
+    × ((made : PlainExplored) × IsExplored s.program asked made × TellsRuns options s asked made reply))
     ⊎ (reply ≡ runs_out [])
 
 -- the same behind what was shown; or what is shown could not be written, and nothing is told

@@ -17,7 +17,6 @@ pub mod Running
 pub mod Replaying
 pub mod Narrated
 pub mod Exploring
-pub mod Json
 pub mod Outcomes
 pub mod Verified
 pub mod Wanted

@@ -16,7 +16,7 @@ use Rattle.cml_explore.specs.Outcomes.{PlainOutcome, GivesOutcome}
 use Rattle.cml_schedule.specs.Written.{schedule_text}
 use Rattle.cml_schedule.specs.declared.item.Item.{Item}
 use Rattle.cml_text.specs.Lines.{line, lines}
-use Rattle.cml_host.specs.Json.{array, commas, member, object, json_string, truth}
+use Rattle.cml_json.specs.Json.{array, commas, member, object, json_string, truth}
 use Rattle.cml_host.specs.Replies.{File, file}
 use Rattle.cml_host.specs.declared.outcomes.OutcomeTold.{OutcomeTold}
 

@@ -8,6 +8,7 @@ use Rattle.cml_explore.specs.Explored.{PlainExplored}
 use Rattle.cml_explore.specs.FaultsTold.{AreFaultsTold}
 use Rattle.cml_explore.specs.declared.ends.EndsTold.{EndsTold}
 use Rattle.cml_explore.specs.declared.fault_told.FaultTold.{FaultTold}
+use Rattle.cml_json.specs.Verdicts.{verify_json}
 use Rattle.cml_phrase.specs.Spots.{all_places}
 use Rattle.cml_schedule.specs.declared.item.Item.{Item}
 use Rattle.cml_text.specs.Lines.{line}
@@ -47,9 +48,14 @@ pub record IsSearched (p : List (PlainItem ℕ)) (with_output : Bool) (bound : �
 abbrev pub is_clean : Bool → Bool → Verdict → Bool
 is_clean endless well v = well && (length v.faults.items == 0 && (endless || not (is_some v.unending)))
 
+-- with `--json` this is written of what was found
+abbrev pub FoundWritten : VerifyOptions → PlainScript → List ℕ → Verdict → EndsTold → List FaultTold → Bool → List ℕ → Type 0
+FoundWritten options s servers v ends faults clean said = options.json ≡ true
+    → said ≡ verify_json options.script.now s.forms servers v.states v.reach ends faults (option_map length (unending_of v)) clean
+
 -- Every schedule of the script was examined, up to so many states: the runs are those to the ends of a verdict, in classes of those that ended
--- alike, and that is told of them, and of its faults.
-pub record IsExamined (s : PlainScript) (options : VerifyOptions) (servers : List ℕ) (reach : Option ℕ) (clean : Bool) (made : PlainExplored) (told : EndsTold) : Type 0 where
+-- alike, that is told of them, and of its faults, and that is written.
+pub record IsExamined (s : PlainScript) (options : VerifyOptions) (servers : List ℕ) (reach : Option ℕ) (clean : Bool) (made : PlainExplored) (told : EndsTold) (said : List ℕ) : Type 0 where
   pub verdict : Verdict
   pub found : IsSearched s.program false options.states verdict
   pub reach_is : reach ≡ verdict.reach
@@ -58,6 +64,7 @@ pub record IsExamined (s : PlainScript) (options : VerifyOptions) (servers : Lis
   pub faults : List FaultTold
   pub faults_are : AreFaultsTold (all_places s.text s.forms) s.program (faults_of verdict) faults
   pub clean_is : clean ≡ is_clean options.endless made.well verdict
+  pub said_is : FoundWritten options s servers verdict told faults clean said
 
 -- ---- how it is told, and what is saved
 
@@ -78,17 +85,17 @@ ends_start options = option_map (λ start. start.now) options.save
 abbrev pub verified_servers : VerifyOptions → List Name
 verified_servers options = map (λ name. name.now) options.servers.items
 
--- Some text tells what was found; the files that are asked for are saved; and the status says whether something bad was found, and whether all was
+-- This text is written of what was found; the files that are asked for are saved; and the status says whether something bad was found, and whether all was
 -- examined.
-abbrev pub VerdictTold : VerifyOptions → List (PlainItem ℕ) → Option ℕ → Bool → PlainExplored → EndsTold → PlainReply → Type 0
-VerdictTold options p reach clean made told reply =
-    (reply.files ≡ end_files (ends_start options) p made.classes told.order.items) × (reply.words ≡ []) × (reply.status ≡ verdict_status reach clean)
+abbrev pub VerdictTold : VerifyOptions → List (PlainItem ℕ) → Option ℕ → Bool → PlainExplored → EndsTold → List ℕ → PlainReply → Type 0
+VerdictTold options p reach clean made told said reply =
+    (reply.output ≡ said) × (reply.files ≡ end_files (ends_start options) p made.classes told.order.items) × (reply.words ≡ []) × (reply.status ≡ verdict_status reach clean)
 
 -- the script was examined, and it is told how its schedules end
 abbrev pub TellsEnds : VerifyOptions → PlainScript → List ℕ → PlainReply → Type 0
 TellsEnds options s servers reply =
-    (reach : Option ℕ) × (clean : Bool) × (made : PlainExplored) × (told : EndsTold) × IsExamined s options servers reach clean made told
-    × VerdictTold options s.program reach clean made told reply
+    (reach : Option ℕ) × (clean : Bool) × (made : PlainExplored) × (told : EndsTold) × (said : List ℕ) × IsExamined s options servers reach clean made told said
+    × VerdictTold options s.program reach clean made told said reply
 
 -- these outcomes, and what the search came to; a file for each, where that is asked for; and the status
 abbrev pub outcomes_reply : Option Name → List (PlainItem ℕ) → ℕ → Option ℕ → List PlainOutcomeTold → ℕ → PlainReply

@@ -5,7 +5,7 @@ ghost use Rattle.std.specs.{List.{All, list_any}, String.{string_bytes}};
 ghost use Rattle.cml_check.specs.Sizes.{size_of};
 ghost use Rattle.cml_explore.specs.Explored.{HasMade, IsExplored, SoFar};
 ghost use Rattle.cml_host.specs.Behind.{bytes_of};
-ghost use Rattle.cml_host.specs.Exploring.{AsksForRuns, ExploreOutcome, ExploresSo, IsBeside, ProgramExplored, ScriptExplored, ShowsMarks, StopsShowing, TellsRuns, WantedExplored, explored_until, file_told, files_behind, files_from, files_told, judged, none_seen, saved_start, stop_in, stops_of};
+ghost use Rattle.cml_host.specs.Exploring.{AsksForRuns, ExploreOutcome, ExploresSo, IsBeside, ProgramExplored, RunsWritten, ScriptExplored, ShowsMarks, StopsShowing, TellsRuns, WantedExplored, explored_until, file_told, files_behind, files_from, files_told, judged, none_seen, saved_start, stop_in, stops_of};
 ghost use Rattle.cml_host.specs.{Narrated.{IsCutBy, Writes}, Replies.{file, passage, plain_file, plain_of, plain_reply}, Scripts.{plain_script}, Stores.{IsUnchanged, Shelf}};
 ghost use Rattle.cml_host.specs.Exploring as spec;
 ghost use Rattle.cml_host.specs.declared.explain.Halt.TheVariants.{Write};
@@ -30,6 +30,7 @@ use cml_check::Prog;
 use cml_explore::{
     Asked, ClassTold, Classes, Explored, RunsTold, Until, first_output, tell_runs, write_runs,
 };
+use cml_json::explore_json;
 use cml_judge::Wanted;
 use cml_properties::Property;
 use cml_schedule::{Item, schedule_text};
@@ -559,10 +560,10 @@ fn told_made(
 ) -> Result<Reply, AllocError>
     requires budget { IsBudget asked.now.budget }
     requires seeds { asked.now.first + made.now.runs ≤ 2 ^ 64 }
-    ensures { IfOk result (λ reply. TellsRuns (saved_start options.now) options.now.steps (plain_script script.now) asked.now made.now (plain_of reply)) }
+    ensures { IfOk result (λ reply. TellsRuns options.now (plain_script script.now) asked.now made.now (plain_of reply)) }
 {
     let told = told_of(alloc, script, asked, made)?;
-    let output = words_of(alloc, script, options, asked.wanted.properties, &told)?;
+    let output = written(alloc, script, options, asked.wanted.properties, &told)?;
     let program = &script.program;
     let files = asked_files(
         alloc,
@@ -595,6 +596,24 @@ fn told_of(
     let text = script.text.as_slice();
     let forms = script.forms.as_slice();
     tell_runs(alloc, text, forms, &script.program, *asked, made)
+}
+
+// The same as an object, where that is asked for, and else in words.
+fn written(
+    alloc: Global,
+    script: &Script,
+    options: &ExploreOptions<'_>,
+    properties: &[Property],
+    told: &RunsTold,
+) -> Result<Vec<u8>, AllocError>
+    ensures { IfOk result (λ text. RunsWritten options.now (plain_script script.now) properties.now told.now text.items) }
+{
+    if options.json {
+        let forms = script.forms.as_slice();
+        explore_json(alloc, options.script, forms, properties, told)
+    } else {
+        words_of(alloc, script, options, properties, told)
+    }
 }
 
 // The same in words.

@@ -9,7 +9,6 @@ mod explain;
 mod explore;
 mod file;
 mod item;
-mod json;
 pub mod law;
 mod opening;
 mod order;

@@ -2,18 +2,18 @@
 
 ghost use Rattle.std.specs.{Prelude.{◌≡◌, ◌++◌, ◌∷◌, [], IfOk, List, OnOk, map, option_map, ℕ}, BTreeMap.{IsOrdered}, Cmp.Lexicographic.{slice_cmp}, Ordering.{nat_cmp}, String.{string_bytes}};
 ghost use Rattle.cml_explore.specs.Outcomes.{plain_outcome};
-ghost use Rattle.cml_host.specs.Json as json;
+ghost use Rattle.cml_json.specs.Json as json;
 ghost use Rattle.cml_host.specs.Outcomes.{AreFound, AreOutcomes, GivesText, Notes, plain_outcome_told, entry_told};
 ghost use Rattle.cml_host.specs.Outcomes as spec;
 ghost use Rattle.cml_host.specs.Replies.{plain_file};
 ghost use Rattle.cml_text.specs.Lines.{lines};
 
 use crate::explore::class_file;
-use crate::json::{array, json_string};
 use crate::reply::File;
 use cml_check::Prog;
 use cml_explore::{Outcome, ThreadEnd, outcome_by};
 use cml_hub::Item;
+use cml_json::{array, json_string};
 use cml_text::Lines;
 use std::alloc::{AllocError, Global};
 use std::collections::BTreeMap;

@@ -1,11 +1,12 @@
 //! The command `verify`: every schedule of a script is examined, and it is told how they end.
 
-ghost use Rattle.std.specs.{Prelude.{◌≡◌, ◌<◌, [], IfErr, IfOk, Some, length, map, option_map}, List.{All}};
+ghost use Rattle.std.specs.{Prelude.{◌≡◌, ◌<◌, [], IfErr, IfOk, Some, length, map, option_map, true}, List.{All}};
 ghost use Rattle.cml_explore.specs.{Ends.{AreEndsTold}, FaultsTold.{AreFaultsTold}};
 ghost use Rattle.cml_host.specs.{Refused.{RefusesAs}, Replies.{plain_file, plain_of, plain_reply}, Scripts.{plain_script}, Stores.{IsUnchanged}};
 ghost use Rattle.cml_host.specs.Outcomes.{PlainOutcomeTold, plain_outcome_told};
 ghost use Rattle.cml_host.specs.Verified.{IsAstray, IsExamined, IsSearched, ProgramVerified, ScriptVerified, TellsOutcomes, VerdictTold, VerifyOutcome, end_files, ends_of, ends_start, faults_of, unending_of};
 ghost use Rattle.cml_host.specs.Verified as spec;
+ghost use Rattle.cml_json.specs.Verdicts.{verify_json as found_json};
 ghost use Rattle.cml_phrase.specs.Spots.{all_places};
 ghost use Rattle.cml_step.specs.Calls.{text_of};
 ghost use Rattle.cml_verify.specs.{Verdicts.{IsVerdict}, Faults.{AreFaults, IsUnending}};
@@ -24,8 +25,7 @@ use cml_explore::{
     write_faulted,
 };
 use cml_facts::ending::push_many;
-use cml_hub::Item;
-use cml_text::Sexpr;
+use cml_json::{Verified, verify_json};
 use cml_verify::{Gap, Verdict, outcomes, verify};
 use std::alloc::{AllocError, Global};
 
@@ -49,7 +49,7 @@ struct Examined {
     made: Explored,
     // What is told of the classes.
     told: EndsTold,
-    // The words for it.
+    // What is written.
     said: Vec<u8>,
 }
 
@@ -209,7 +209,7 @@ fn examine(
     servers: &[u32],
 ) -> Result<Examined, Refusal>
     requires bound { 0 < options.now.states }
-    ensures found { IfOk result (λ found. IsExamined (plain_script script.now) options.now servers.now found.reach found.clean found.made found.told) }
+    ensures found { IfOk result (λ found. IsExamined (plain_script script.now) options.now servers.now found.reach found.clean found.made found.told found.said.items) }
     ensures below { IfOk result (λ found. All (λ n. n < length found.made.classes) found.told.order.items) }
     ensures err { IfErr result (RefusesAs IsAstray) }
 {
@@ -217,17 +217,22 @@ fn examine(
     let made = gather_ends(alloc, &script.program, servers, verdict.ends.as_slice())?;
     let told = ends_told(alloc, script, servers, &made)?;
     let faults = faults_told(alloc, script, &verdict)?;
-    let said = say_found(
-        alloc,
-        script.forms.as_slice(),
-        options,
-        &verdict,
-        &told,
-        faults.as_slice(),
-    )?;
+    let clean = is_clean(options.endless, made.is_well(), &verdict);
+    let found = Verified {
+        name: options.script,
+        forms: script.forms.as_slice(),
+        servers,
+        states: verdict.states,
+        reach: verdict.reach,
+        ends: &told,
+        faults: faults.as_slice(),
+        unending: unending_items(&verdict),
+        clean,
+    };
+    let said = written(alloc, options, &found)?;
     Ok(Examined {
         reach: verdict.reach,
-        clean: is_clean(options.endless, made.is_well(), &verdict),
+        clean,
         made,
         told,
         said,
@@ -268,23 +273,42 @@ fn faults_told(
     )
 }
 
-// The words for what was found.
-fn say_found(
-    alloc: Global,
-    forms: &[Sexpr],
-    options: &VerifyOptions<'_>,
-    verdict: &Verdict,
-    told: &EndsTold,
-    faults: &[FaultTold],
-) -> Result<Vec<u8>, AllocError> {
-    let mut said = Vec::new(alloc);
-    match verdict.reach {
-        None => push_whole(alloc, &mut said, options.script, verdict.states, told)?,
-        Some(most) => push_bound(alloc, &mut said, options.states, most)?,
+// How many items the schedule has that can't go on to an end, if there is one.
+fn unending_items(verdict: &Verdict) -> Option<usize>
+    ensures { result ≡ option_map length (unending_of verdict.now) }
+{
+    match &verdict.unending {
+        Some(schedule) => Some(schedule.len()),
+        None => None,
     }
-    write_ends(alloc, &mut said, forms, told)?;
-    write_faulted(alloc, &mut said, forms, faults)?;
-    push_unending(alloc, &mut said, verdict.unending.as_ref())?;
+}
+
+// What was found, as an object, where that is asked for, and else in words.
+fn written(
+    alloc: Global,
+    options: &VerifyOptions<'_>,
+    found: &Verified<'_>,
+) -> Result<Vec<u8>, AllocError>
+    ensures { let v = found.now in
+        IfOk result (λ said. options.now.json ≡ true → said.items ≡ found_json v.name.now v.forms.now v.servers.now v.states v.reach v.ends.now v.faults.now v.unending v.clean) }
+{
+    if options.json {
+        verify_json(alloc, found)
+    } else {
+        say_found(alloc, options.states, found)
+    }
+}
+
+// The words for what was found, up to so many states.
+fn say_found(alloc: Global, bound: u64, found: &Verified<'_>) -> Result<Vec<u8>, AllocError> {
+    let mut said = Vec::new(alloc);
+    match found.reach {
+        None => push_whole(alloc, &mut said, found.name, found.states, found.ends)?,
+        Some(most) => push_bound(alloc, &mut said, bound, most)?,
+    }
+    write_ends(alloc, &mut said, found.forms, found.ends)?;
+    write_faulted(alloc, &mut said, found.forms, found.faults)?;
+    push_unending(alloc, &mut said, found.unending)?;
     Ok(said)
 }
 
@@ -292,12 +316,12 @@ fn say_found(
 fn push_unending(
     alloc: Global,
     said: &mut Vec<u8>,
-    unending: Option<&Vec<Item>>,
+    unending: Option<usize>,
 ) -> Result<(), AllocError> {
     match unending {
-        Some(schedule) => {
+        Some(items) => {
             said.extend_from_slice(b"no end   after ")?;
-            push_many(alloc, said, " item", " items", schedule.len() as u64)?;
+            push_many(alloc, said, " item", " items", items as u64)?;
             said.extend_from_slice(b"\n")
         }
         None => Ok(()),
@@ -344,7 +368,7 @@ fn tell_found(
     found: Examined,
 ) -> Result<Reply, AllocError>
     requires { All (λ n. n < length found.made.classes) found.told.order.items }
-    ensures { IfOk result (λ reply. VerdictTold options.now program.now found.reach found.clean found.made found.told (plain_of reply)) }
+    ensures { IfOk result (λ reply. VerdictTold options.now program.now found.reach found.clean found.made found.told found.said.items (plain_of reply)) }
 {
     let status = verdict_status(found.reach, found.clean);
     let Examined {

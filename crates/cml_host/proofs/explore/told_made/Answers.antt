@@ -19,4 +19,4 @@ returns c =
     let s = c.args.script.now in
     let options = c.args.options.now in
     let files : map plain_file c.in_ok-files.files.items ≡ files_told (saved_start options) options.steps s.program c.args.made.now.classes c.in_ok-told.told = search rules in
-    ((c.in_ok-told.told, c.in_ok-told.ensures, files), search rules, c.judge.ensures)
+    ((c.in_ok-told.told, c.in_ok-told.ensures, files, c.in_ok-output.ensures), search rules, c.judge.ensures)

@@ -1,5 +1,5 @@
 use Rattle.std.proofs.Common.{◌≡◌, map, take}
-use Rattle.cml_host.specs.Json.{json_string}
+use Rattle.cml_json.specs.Json.{json_string}
 use Rattle.cml_host.specs.Outcomes.{end_name}
 use Rattle.cml_host.proofs.outcomes.end_texts.Given as goal
 

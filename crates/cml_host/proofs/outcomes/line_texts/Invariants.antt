@@ -1,6 +1,6 @@
 use Rattle.std.proofs.Common.{◌≡◌, ◌++◌, length, map}
 use Rattle.cml_text.specs.Lines.{lines}
-use Rattle.cml_host.specs.Json.{json_string}
+use Rattle.cml_json.specs.Json.{json_string}
 use Rattle.cml_host.proofs.outcomes.line_texts.Given as goal
 
 -- those so far, and those of the lines that are left

@@ -1,7 +1,0 @@
-use Rattle.std.proofs.Common.{◌≡◌, ◌++◌, codes, map, take}
-use Rattle.cml_host.specs.Json.{commas}
-use Rattle.cml_host.proofs.json.array.Given as goal
-
--- those so far
-abbrev pub invariant-loop-place : goal.invariant-loop-place
-invariant-loop-place l = l.text.items ≡ codes "[" ++ commas (map (λ one. one.items) (take l.place l.texts))

@@ -1,0 +1,8 @@
+use Rattle.std.proofs.Common.{◌≡◌, ◌++◌, codes, map, take}
+use Rattle.cml_json.specs.Json.{commas}
+use Rattle.cml_json.specs.Verdicts.{fault_json}
+use Rattle.cml_json.proofs.verdict.push_faults.Given as goal
+
+-- those so far
+abbrev pub invariant-loop-place : goal.invariant-loop-place
+invariant-loop-place l = l.text.items ≡ (l.fn.text.items ++ codes "[") ++ commas (map (fault_json l.forms l.servers) (take l.place l.faults))
