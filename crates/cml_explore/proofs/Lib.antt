@@ -6,6 +6,7 @@ pub mod PartLemmas
 pub mod PlaceLemmas
 pub mod Crossing
 pub mod SightLemmas
+pub mod BelowLemmas
 pub mod RankLemmas
 pub mod LawLemmas
 pub mod JudgeLemmas

@@ -21,7 +21,7 @@ use Rattle.cml_facts.proofs.ThreadLemmas.{IsMade}
 use Rattle.cml_facts.specs.Falls.{PlainFall, AreFalls}
 use Rattle.cml_explore.specs.declared.told.ThreadLeft.{ThreadLeft}
 use Rattle.cml_explore.specs.declared.told.ThreadState.{ThreadState}
-use Rattle.cml_explore.specs.Sights.{Sight, AreSpotsToTell, fault_state, state_or_fault, state_told, thread_left, thread_told, threads_told}
+use Rattle.cml_explore.specs.Sights.{Sight, AreSpotsBelow, AreSpotsToTell, fault_state, state_or_fault, state_told, thread_left, thread_told, threads_told}
 use Rattle.cml_explore.specs.Told.{AreThreadsTold}
 
 -- what is told of a thread
@@ -60,8 +60,8 @@ same_takers : (c : PlainCourse) (takers : Takers) → KnowsTakers (text_of c.pro
 same_takers c takers knows = λ i m. knows m i
 
 -- the sight of a run whose takers are these
-abbrev seen_with : List (List Place) → PlainCourse → (ℕ → Option PlainFall) → List (Option Spot) → (ℕ → Option ℕ) → Sight
-seen_with places c falls spots taker = record {
+abbrev seen_with : List (List Place) → PlainCourse → (ℕ → Option PlainFall) → List (Option Spot) → List (Option Spot) → (ℕ → Option ℕ) → Sight
+seen_with places c falls spots below taker = record {
   places = places;
   program = c.program;
   world = c.world;
@@ -69,19 +69,22 @@ seen_with places c falls spots taker = record {
   taker = taker;
   falls = falls;
   spots = spots;
+  below = below;
 }
 
 -- the threads of a run
 pub threads_seen : {E : Type 0} (r : Result (Vec ThreadLeft Global) E) (places : List (List Place)) (c : PlainCourse)
-    (takers : Takers) (falls : ℕ → Option PlainFall) (spots : List (Option Spot))
-    → KnowsTakers (text_of c.program) c.items takers → AreFalls c.program c.items falls → AreSpotsToTell c falls spots
-    → IfOk r (λ threads. threads.items ≡ threads_told (seen_with places c falls spots (taker_in takers)) 0 c.world.threads)
+    (takers : Takers) (falls : ℕ → Option PlainFall) (spots below : List (Option Spot))
+    → KnowsTakers (text_of c.program) c.items takers → AreFalls c.program c.items falls → AreSpotsToTell c falls spots → AreSpotsBelow c falls below
+    → IfOk r (λ threads. threads.items ≡ threads_told (seen_with places c falls spots below (taker_in takers)) 0 c.world.threads)
     → IfOk r (λ threads. AreThreadsTold places c threads.items)
-threads_seen (Ok threads) places c takers falls spots knows are stands e = record {
+threads_seen (Ok threads) places c takers falls spots below knows are stands stood e = record {
   falls = falls;
   are = are;
   spots = spots;
   stands = stands;
-  threads_are = e ∙ ap (λ (taker : ℕ → Option ℕ). threads_told (seen_with places c falls spots taker) 0 c.world.threads) (same_takers c takers knows);
+  below = below;
+  stood = stood;
+  threads_are = e ∙ ap (λ (taker : ℕ → Option ℕ). threads_told (seen_with places c falls spots below taker) 0 c.world.threads) (same_takers c takers knows);
 }
-threads_seen (Err y) places c takers falls spots knows are stands e = tt
+threads_seen (Err y) places c takers falls spots below knows are stands stood e = tt

@@ -16,4 +16,5 @@ plain_sight s = record {
   taker = taker_in s.takers.now;
   falls = fall_in s.falls.now;
   spots = s.spots.now;
+  below = s.below.now;
 }

@@ -33,7 +33,7 @@ use Rattle.cml_explore.specs.Finishes.{fate_of, is_good}
 use Rattle.cml_explore.specs.Orders.{seed_order}
 use Rattle.cml_explore.specs.Ranks.{AreInRank}
 use Rattle.cml_explore.specs.Stops.{IsLastStop}
-use Rattle.cml_explore.specs.Sights.{sight_of, AreSpotsToTell, threads_told}
+use Rattle.cml_explore.specs.Sights.{sight_of, AreSpotsBelow, AreSpotsToTell, threads_told}
 
 -- The threads that are left in a run, or ended at a fault in it, by number. A call that waits stands at a statement that has it wait; where there
 -- are two such, either may be told.
@@ -42,7 +42,9 @@ pub record AreThreadsTold (places : List (List Place)) (c : PlainCourse) (thread
   pub are : AreFalls c.program c.items falls
   pub spots : List (Option Spot)
   pub stands : AreSpotsToTell c falls spots
-  pub threads_are : threads ≡ threads_told (sight_of places c falls spots) 0 c.world.threads
+  pub below : List (Option Spot)
+  pub stood : AreSpotsBelow c falls below
+  pub threads_are : threads ≡ threads_told (sight_of places c falls spots below) 0 c.world.threads
 
 abbrev pub is_wait : ThreadState → Bool
 is_wait (states.Stands (standing.Waits awaited)) = true

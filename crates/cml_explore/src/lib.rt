@@ -2,6 +2,7 @@
 #![tactic(auto)]
 
 mod answer;
+mod below;
 mod classes;
 mod ends;
 mod excuse;

@@ -30,6 +30,8 @@ pub(crate) struct Sighted<'a> {
     pub(crate) falls: &'a Falls,
     /// Where each thread stands; of one that ended at a fault, where it stood before its last step.
     pub(crate) spots: &'a [Option<Spot>],
+    /// Of each thread that ended at a fault, where the call below its top call stood before its last step.
+    pub(crate) below: &'a [Option<Spot>],
 }
 
 // Where the thread of this number stands; where it ended at a fault, where it stood before its last step.
@@ -88,13 +90,23 @@ impl Sighted<'_> {
         }
     }
 
+    // Where the thread of this number stands in the text; where its top call is at no statement there, where the call below it is.
+    fn place(&self, thread: u32) -> Option<Place>
+        ensures { result ≡ spec.place_told (plain_sight self.now) thread }
+    {
+        match place_of(self.places, self.spots, thread) {
+            Some(place) => Some(place),
+            None => place_of(self.places, self.below, thread),
+        }
+    }
+
     // The thread of this number, which is left so.
     fn thread_left(&self, thread: u32, state: ThreadState) -> Result<ThreadLeft, AllocError>
         ensures { IfOk result (λ left. left ≡ spec.thread_left (plain_sight self.now) thread state) }
     {
         Ok(ThreadLeft {
             thread: who_is(self.hub, thread)?,
-            place: place_of(self.places, self.spots, thread),
+            place: self.place(thread),
             state,
         })
     }

@@ -6,6 +6,7 @@ ghost use Rattle.cml_phrase.specs.Spots.{all_places};
 ghost use Rattle.cml_explore.specs.Told.{AreClassesTold, AreEachBreakTold, AreThreadsTold, IsClassTold, IsJudgementTold, IsRunTold, IsSeedTold, IsTeller, IsToldOfRuns};
 ghost use Rattle.cml_explore.specs.Told as spec;
 
+use crate::below::spots_below;
 use crate::classes::Classes;
 use crate::explored::{Asked, Explored, is_well};
 use crate::finish::fate_of;
@@ -41,6 +42,7 @@ fn threads_told(
 {
     let known = retell(alloc, hub)?;
     let spots = spots_of(alloc, hub, &known.falls)?;
+    let below = spots_below(alloc, hub, &known.falls)?;
     let sight = Sighted {
         alloc,
         places,
@@ -48,6 +50,7 @@ fn threads_told(
         takers: &known.takers,
         falls: &known.falls,
         spots: spots.as_slice(),
+        below: below.as_slice(),
     };
     sight.threads()
 }

@@ -28,10 +28,10 @@ IsShorter p asked plan schedule =
 abbrev pub GivesShorter : List (PlainItem ℕ) → Asked → PlainPlan → PlainReply → Type 0
 GivesShorter p asked plan reply = IsShorter p asked plan reply.output × (reply.files ≡ []) × (reply.status ≡ 0)
 
--- the run by the schedule is to stop where it breaks something, and breaks nothing
+-- the run by the schedule is to stop where it breaks something, however it goes on, and does so at no item
 abbrev pub BreaksNothing : List (PlainItem ℕ) → Asked → PlainPlan → Fault
 BreaksNothing p asked plan told status =
-    (asked.stops ≡ true) × StopsAfter asked.properties.now (text_of p) plan.items None × (told ≡ line (codes "schedule breaks nothing")) × (status ≡ 3)
+    (asked.stops ≡ true) × StopsAfter asked.properties.now (text_of p) plan.items None × (told ≡ line (codes "schedule breaks nothing before its end")) × (status ≡ 3)
 
 abbrev pub IsNotShorter : List (PlainItem ℕ) → Asked → PlainPlan → Fault
 IsNotShorter p asked plan told status = HasBadItem true p plan told status ⊎ BreaksNothing p asked plan told status

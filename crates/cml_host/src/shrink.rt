@@ -87,7 +87,7 @@ fn shrink_plan(alloc: Global, both: Opened<'_>, asked: Asked<'_>) -> Result<Repl
         }
         Err(ShrinkFault::NoBreak) => {
             drop(program);
-            Err(Refusal::Line("schedule breaks nothing\n", REFUSED))
+            Err(Refusal::Line("schedule breaks nothing before its end\n", REFUSED))
         }
         Err(ShrinkFault::Memory) => {
             drop(program);

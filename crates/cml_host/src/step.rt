@@ -24,7 +24,7 @@ use crate::tell::{let_go, schedule_file};
 use crate::trace::faulted;
 use cml_arguments::StepOptions;
 use cml_hub::Hub;
-use cml_stepper::{Reply as Answer, Stepper, push_question, push_reply};
+use cml_stepper::{Reply as Answer, Run, Stepper, push_question, push_reply};
 use cml_stream::Counting;
 use cml_stream::input_output::WriteFault;
 use cml_trace::{MAX_TURNS, TraceFault};
@@ -354,21 +354,22 @@ fn reply<O: Write>(
 {
     let answer = stepper.answer(alloc, hub, line)?;
     let ends = answer.ends();
-    let text = words_of(alloc, subject, answer)?;
+    let text = words_of(alloc, stepper, hub, subject, answer)?;
     send(text.as_slice(), out)?;
     Ok(ends)
 }
 
-// The words of an answer.
-fn words_of(alloc: Global, subject: &Subject<'_>, answer: Answer) -> Result<Vec<u8>, AllocError> {
+// The words of an answer, after which the run stands here.
+fn words_of(
+    alloc: Global,
+    stepper: &Stepper<'_>,
+    hub: &Hub,
+    subject: &Subject<'_>,
+    answer: Answer,
+) -> Result<Vec<u8>, AllocError> {
+    let name = subject.name;
     let mut text = Vec::new(alloc);
-    push_reply(
-        alloc,
-        &mut text,
-        subject.name,
-        subject.forms.as_slice(),
-        &answer,
-    )?;
+    push_reply(alloc, &mut text, Run { name, stepper, hub }, &answer)?;
     Ok(text)
 }
 
@@ -379,15 +380,10 @@ fn ask(
     hub: &Hub,
     subject: &Subject<'_>,
 ) -> Result<Vec<u8>, AllocError> {
+    let name = subject.name;
     let question = stepper.ask(alloc, hub)?;
     let mut text = Vec::new(alloc);
-    push_question(
-        alloc,
-        &mut text,
-        subject.name,
-        subject.forms.as_slice(),
-        &question,
-    )?;
+    push_question(alloc, &mut text, Run { name, stepper, hub }, &question)?;
     Ok(text)
 }
 

@@ -3,7 +3,7 @@ use Rattle.std.specs.Prelude.{◌≡◌, ◌⊎◌, ℕ, if◌then◌else◌, Li
 use Rattle.std.specs.Str.{bytes_eq}
 use Rattle.cml_text.specs.Faults.{PlainFault}
 use Rattle.cml_text.specs.Forms.{PlainSexpr, plain_name, plain_int, plain_text, plain_list}
-use Rattle.cml_text.specs.Numbers.{number_by, number_from}
+use Rattle.cml_text.specs.Numbers.{number_from, tick_by, tick_from}
 use Rattle.cml_text.specs.Texts.{Spells, fault_of}
 use Rattle.cml_stepper.specs.declared.line.Typed.{Typed}
 use Rattle.cml_stepper.specs.declared.line.Typed.TheVariants as typed
@@ -23,27 +23,36 @@ number_typed None = typed.Unknown
 
 abbrev pub alone_typed : PlainSexpr → Typed
 alone_typed (plain_name span bytes) = word_typed bytes
-alone_typed (plain_int span z) = number_typed (number_by z)
+alone_typed (plain_int span z) = number_typed (tick_by z)
 alone_typed (plain_text span content) = typed.Unknown
 alone_typed (plain_list span forms) = typed.Unknown
 
--- a word with a number: `t 3` is a turn of thread 3, `l 21` lists the rows from that number on
-abbrev pub named_typed : List ℕ → Option ℕ → Typed
-named_typed bytes None = typed.Unknown
-named_typed bytes (Some n) =
-    if bytes_eq bytes (codes "t") then typed.Turn (record { 0 = n }) else if bytes_eq bytes (codes "l") then typed.List n else typed.Unknown
+abbrev pub turn_typed : Option ℕ → Typed
+turn_typed (Some n) = typed.Turn (record { 0 = n })
+turn_typed None = typed.Unknown
 
-abbrev pub both_typed : PlainSexpr → Option ℕ → Typed
-both_typed (plain_name span bytes) n = named_typed bytes n
-both_typed (plain_int span z) n = typed.Unknown
-both_typed (plain_text span content) n = typed.Unknown
-both_typed (plain_list span forms) n = typed.Unknown
+abbrev pub list_typed : Option ℕ → Typed
+list_typed (Some n) = typed.List n
+list_typed None = typed.Unknown
+
+-- a word with a number: `t 3` is a turn of thread 3, `l 21` lists the rows from that number on
+abbrev pub named_typed : List ℕ → PlainSexpr → Typed
+named_typed bytes second =
+    if bytes_eq bytes (codes "t") then turn_typed (number_from second)
+    else if bytes_eq bytes (codes "l") then list_typed (tick_from second)
+    else typed.Unknown
+
+abbrev pub both_typed : PlainSexpr → PlainSexpr → Typed
+both_typed (plain_name span bytes) second = named_typed bytes second
+both_typed (plain_int span z) second = typed.Unknown
+both_typed (plain_text span content) second = typed.Unknown
+both_typed (plain_list span forms) second = typed.Unknown
 
 -- what these forms say; nothing says that the run goes on
 abbrev pub typed_by : List PlainSexpr → Typed
 typed_by [] = typed.Next
 typed_by (form ∷ []) = alone_typed form
-typed_by (form ∷ second ∷ []) = both_typed form (number_from second)
+typed_by (form ∷ second ∷ []) = both_typed form second
 typed_by (form ∷ second ∷ third ∷ forms) = typed.Unknown
 
 -- A line says what its forms say; one that spells no forms says nothing that is known.

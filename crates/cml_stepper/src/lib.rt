@@ -2,6 +2,8 @@
 #![tactic(auto)]
 
 mod begin;
+mod fault_words;
+mod faults;
 mod line;
 mod offer;
 mod pick;
@@ -14,6 +16,7 @@ mod rows;
 mod stepper;
 mod undo;
 
+pub use fault_words::Run;
 pub use offer::{Offer, Row, Rows};
 pub use question::{Next, Offers, Question, Ready};
 pub use question_words::push_question;

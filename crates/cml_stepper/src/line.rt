@@ -4,7 +4,7 @@ ghost use Rattle.std.specs.Prelude.{◌≡◌, IfOk};
 ghost use Rattle.cml_stepper.specs.Typings as spec;
 
 use cml_text::law::spelled_or_faulty;
-use cml_text::{Sexpr, Shape, TextFault, number_from, read};
+use cml_text::{Sexpr, Shape, TextFault, number_from, read, tick_from};
 use cml_value::Tid;
 use std::alloc::{AllocError, Global};
 
@@ -12,13 +12,13 @@ use std::alloc::{AllocError, Global};
 #[derive(Clone, Copy, PartialEq, Eq)]
 pub(crate) enum Typed {
     /// The row of this number is taken.
-    Row(u32),
+    Row(u64),
     /// This thread has its turn.
     Turn(Tid),
     /// The run goes on.
     Next,
     /// The rows from this number on are listed.
-    List(u32),
+    List(u64),
     /// It is asked who waits.
     Waits,
     /// The last item is undone.
@@ -45,7 +45,7 @@ fn word_typed(word: &str) -> Typed
 }
 
 // What a number by itself says.
-fn number_typed(number: Option<u32>) -> Typed
+fn number_typed(number: Option<u64>) -> Typed
     ensures { result ≡ spec.number_typed number }
 {
     match number {
@@ -60,34 +60,51 @@ fn alone_typed(form: &Sexpr) -> Typed
 {
     match form.shape() {
         Shape::Name(name) => word_typed(name.as_str()),
-        Shape::Int(_) => number_typed(number_from(form)),
+        Shape::Int(_) => number_typed(tick_from(form)),
         Shape::Text(_) => Typed::Unknown,
         Shape::List(_) => Typed::Unknown,
     }
 }
 
-// What a word with a number says.
-fn named_typed(word: &str, number: Option<u32>) -> Typed
-    ensures { result ≡ spec.named_typed word.now number }
+// What the number of a thread says.
+fn turn_typed(number: Option<u32>) -> Typed
+    ensures { result ≡ spec.turn_typed number }
 {
-    let Some(n) = number else {
-        return Typed::Unknown;
-    };
+    match number {
+        Some(n) => Typed::Turn(Tid(n)),
+        None => Typed::Unknown,
+    }
+}
+
+// What the number of a row says from which on rows are listed.
+fn list_typed(number: Option<u64>) -> Typed
+    ensures { result ≡ spec.list_typed number }
+{
+    match number {
+        Some(n) => Typed::List(n),
+        None => Typed::Unknown,
+    }
+}
+
+// What a word says with a form behind it.
+fn named_typed(word: &str, second: &Sexpr) -> Typed
+    ensures { result ≡ spec.named_typed word.now second.now }
+{
     if word == "t" {
-        Typed::Turn(Tid(n))
+        turn_typed(number_from(second))
     } else if word == "l" {
-        Typed::List(n)
+        list_typed(tick_from(second))
     } else {
         Typed::Unknown
     }
 }
 
-// What a form says with a number behind it.
-fn both_typed(form: &Sexpr, number: Option<u32>) -> Typed
-    ensures { result ≡ spec.both_typed form.now number }
+// What a form says with another behind it.
+fn both_typed(form: &Sexpr, second: &Sexpr) -> Typed
+    ensures { result ≡ spec.both_typed form.now second.now }
 {
     match form.shape() {
-        Shape::Name(name) => named_typed(name.as_str(), number),
+        Shape::Name(name) => named_typed(name.as_str(), second),
         Shape::Int(_) => Typed::Unknown,
         Shape::Text(_) => Typed::Unknown,
         Shape::List(_) => Typed::Unknown,
@@ -101,7 +118,7 @@ fn typed_by(forms: &[Sexpr]) -> Typed
     match forms {
         [] => Typed::Next,
         [form] => alone_typed(form),
-        [form, second] => both_typed(form, number_from(second)),
+        [form, second] => both_typed(form, second),
         _ => Typed::Unknown,
     }
 }

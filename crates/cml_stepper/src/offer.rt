@@ -34,7 +34,7 @@ pub struct Row {
 /// The first 20 of some rows, the number of the first of them, and whether there are more.
 #[derive(Drop)]
 pub struct Rows {
-    pub first: u32,
+    pub first: u64,
     pub rows: Vec<Row>,
     pub more: bool,
 }
@@ -123,7 +123,7 @@ fn listed(meets: &[Meet]) -> &[Meet]
 pub(crate) fn rows_of(
     alloc: Global,
     hub: &Hub,
-    first: u32,
+    first: u64,
     meets: &[Meet],
 ) -> Result<Rows, AllocError>
     ensures { let c = hub.now.course in

@@ -20,7 +20,7 @@ use std::alloc::{AllocError, Global};
 fn row_numbered(
     alloc: Global,
     book: &Book<OfferIndex>,
-    number: u32,
+    number: u64,
 ) -> Result<Option<Meet>, AllocError>
     ensures { IfOk result (λ row. row ≡ spec.row_numbered book.now number) }
 {
@@ -65,7 +65,7 @@ fn next_item(alloc: Global, hub: &Hub) -> Result<Option<Item>, AllocError>
 }
 
 // The item that takes the row of this number, if there is one.
-fn row_item(alloc: Global, book: &Book<OfferIndex>, number: u32) -> Result<Option<Item>, AllocError>
+fn row_item(alloc: Global, book: &Book<OfferIndex>, number: u64) -> Result<Option<Item>, AllocError>
     ensures { IfOk result (λ item. item ≡ spec.item_typed book.now [] (Typed.Row number)) }
 {
     match row_numbered(alloc, book, number)? {

@@ -1,5 +1,6 @@
 //! The words of a question.
 
+use crate::fault_words::Run;
 use crate::offer::{Offer, Row, Rows};
 use crate::question::{Next, Offers, Question, Ready};
 use cml_facts::ending::{Ending, push_awaited_event, push_named, push_number, write_ending};
@@ -80,7 +81,7 @@ pub(crate) fn push_rows(
     forms: &[Sexpr],
     rows: &Rows,
 ) -> Result<(), AllocError> {
-    let mut number = u64::from(rows.first);
+    let mut number = rows.first;
     for row in &rows.rows {
         push_row(alloc, out, forms, number, row)?;
         number = number.saturating_add(1);
@@ -118,20 +119,19 @@ fn push_offers(
     }
 }
 
-/// Appends how the run has ended, or that no thread is left.
+/// Appends how the run has ended, or that no thread is left; and where and why threads ended at faults.
 pub(crate) fn push_ended(
     alloc: Global,
     out: &mut Vec<u8>,
-    name: &str,
-    forms: &[Sexpr],
+    run: Run<'_>,
     ending: &Ending,
 ) -> Result<(), AllocError> {
     let before = out.len();
-    write_ending(alloc, out, name, forms, ending)?;
+    write_ending(alloc, out, run.name, run.stepper.forms, ending)?;
     if out.len() == before {
         out.extend_from_slice(b"all threads have ended\n")?;
     }
-    Ok(())
+    run.push_faults(alloc, out)
 }
 
 /// Appends the number of the item that comes next; at the first item, how to learn what can be typed.
@@ -148,20 +148,19 @@ pub(crate) fn push_prompt(
     push_numbered_line(alloc, out, b"item ", number as u64, behind)
 }
 
-/// Appends a question. The script's file has this name, and these forms.
+/// Appends a question, which was asked of this run.
 ///
 /// # Errors
 /// Out of memory.
 pub fn push_question(
     alloc: Global,
     out: &mut Vec<u8>,
-    name: &str,
-    forms: &[Sexpr],
+    run: Run<'_>,
     question: &Question,
 ) -> Result<(), AllocError> {
     match &question.next {
-        Next::Offers(offers) => push_offers(alloc, out, forms, offers)?,
-        Next::Ended(ending) => push_ended(alloc, out, name, forms, ending)?,
+        Next::Offers(offers) => push_offers(alloc, out, run.stepper.forms, offers)?,
+        Next::Ended(ending) => push_ended(alloc, out, run, ending)?,
     }
     push_prompt(alloc, out, question.number)
 }

@@ -58,7 +58,7 @@ pub enum Stay {
     /// Some rows.
     Listed(Rows),
     /// There is no row of this number.
-    NoRow(u32),
+    NoRow(u64),
     /// Why the thread has no turn.
     NoTurn(Tid, Why),
     /// Nothing can happen.
@@ -127,7 +127,7 @@ fn unfit(alloc: Global, hub: &Hub, what: Typed) -> Result<Stay, AllocError>
 }
 
 // The rows from this number on, where these are the first of them.
-fn list_of(alloc: Global, hub: &Hub, number: u32, rows: &[Meet]) -> Result<Stay, AllocError>
+fn list_of(alloc: Global, hub: &Hub, number: u64, rows: &[Meet]) -> Result<Stay, AllocError>
     ensures { IfOk result (IsListed hub.now.course number rows.now) }
 {
     if rows.is_empty() {
@@ -138,7 +138,7 @@ fn list_of(alloc: Global, hub: &Hub, number: u32, rows: &[Meet]) -> Result<Stay,
 }
 
 // The rows from this number on.
-fn list(alloc: Global, hub: &Hub, number: u32) -> Result<Stay, AllocError>
+fn list(alloc: Global, hub: &Hub, number: u64) -> Result<Stay, AllocError>
     ensures { IfOk result (Lists hub.now.course number) }
 {
     if number == 0 {

@@ -1,12 +1,12 @@
 //! The words of the answer to a line.
 
+use crate::fault_words::Run;
 use crate::question_words::{
     push_ended, push_numbered_line, push_prompt, push_question, push_rows,
 };
 use crate::reply::{Reply, Stay};
 use cml_facts::narrative::{push_happened, push_why};
 use cml_hub::Item;
-use cml_text::Sexpr;
 use std::alloc::{AllocError, Global};
 
 // What can be answered.
@@ -26,17 +26,15 @@ fn push_printed(out: &mut Vec<u8>, printed: &[u8]) -> Result<(), AllocError> {
 fn push_stay(
     alloc: Global,
     out: &mut Vec<u8>,
-    name: &str,
-    forms: &[Sexpr],
+    run: Run<'_>,
     stay: &Stay,
 ) -> Result<(), AllocError> {
+    let forms = run.stepper.forms;
     match stay {
         Stay::NoItem => out.extend_from_slice(b"there is no item to undo\n"),
-        Stay::Waits(ending) => push_ended(alloc, out, name, forms, ending),
+        Stay::Waits(ending) => push_ended(alloc, out, run, ending),
         Stay::Listed(rows) => push_rows(alloc, out, forms, rows),
-        Stay::NoRow(number) => {
-            push_numbered_line(alloc, out, b"there is no row ", u64::from(*number), b"")
-        }
+        Stay::NoRow(number) => push_numbered_line(alloc, out, b"there is no row ", *number, b""),
         Stay::NoTurn(thread, why) => {
             push_why(alloc, out, forms, &Item::Turn(*thread), why)?;
             out.extend_from_slice(b"\n")
@@ -51,15 +49,14 @@ fn push_stay(
     }
 }
 
-/// Appends the answer to a line. The script's file has this name, and these forms.
+/// Appends the answer to a line, after which the run stands here.
 ///
 /// # Errors
 /// Out of memory.
 pub fn push_reply(
     alloc: Global,
     out: &mut Vec<u8>,
-    name: &str,
-    forms: &[Sexpr],
+    run: Run<'_>,
     reply: &Reply,
 ) -> Result<(), AllocError> {
     match reply {
@@ -69,16 +66,17 @@ pub fn push_reply(
             printed,
             question,
         } => {
-            push_happened(alloc, out, forms, 0, happened)?;
+            push_happened(alloc, out, run.stepper.forms, 0, happened)?;
             push_printed(out, printed.as_slice())?;
-            push_question(alloc, out, name, forms, question)
+            run.push_fault_of(alloc, out, happened, question)?;
+            push_question(alloc, out, run, question)
         }
         Reply::Undone { number, question } => {
             push_numbered_line(alloc, out, b"item ", *number as u64, b" is undone")?;
-            push_question(alloc, out, name, forms, question)
+            push_question(alloc, out, run, question)
         }
         Reply::Stays { stay, number } => {
-            push_stay(alloc, out, name, forms, stay)?;
+            push_stay(alloc, out, run, stay)?;
             push_prompt(alloc, out, *number)
         }
     }

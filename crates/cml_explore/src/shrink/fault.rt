@@ -9,8 +9,8 @@ pub enum ShrinkFault {
     /// The item of this number, counted from 1, is not allowed where it stands.
     #[error("item {0} is not allowed where it stands")]
     BadItem(usize),
-    /// The schedule is to end where its run breaks what must hold, and that breaks nothing.
-    #[error("nothing breaks")]
+    /// The schedule is to end where its run breaks what must hold, and at no item it does.
+    #[error("nothing breaks before its end")]
     NoBreak,
     /// Out of memory.
     #[error("out of memory")]
