@@ -4,7 +4,8 @@
     tools/fits.py
 
 An edit fits if its file is there, each old text stands there once where its turn comes, and each new text differs from it. A file of definitions or
-lemmas imports each name that it uses: there a new text has no name that the file has not. Exit status: 0 where all fit, else 1. tools/test looks too.
+lemmas imports each name that it uses: there a new text has no name that the file had not, but one that the edit imports. Exit status: 0 where all fit,
+else 1. tools/test looks too.
 """
 import pathlib
 import re
@@ -31,7 +32,8 @@ def why_unfit(edit, text):
         if now.count(old) != 1 or old == new:
             return f"`{old}` stands {now.count(old)} times in {file.name}, or is what it was"
         now = now.replace(old, new)
-    strange = {it for _, new in pairs for it in NAME.findall(new)} - {*NAME.findall(was)} if file.suffix == ".antt" else ()
+    known = {*NAME.findall(was), *(it for line in now.split("\n") if line.startswith("use ") for it in NAME.findall(line))}
+    strange = {it for _, new in pairs for it in NAME.findall(new)} - known if file.suffix == ".antt" else ()
     return f"{file.name} does not have {', '.join(sorted(strange))}" if strange else ""
 
 
