@@ -70,6 +70,8 @@ impl Gate for Bench {
 impl Desk for Bench {
     ghost hands = { λ bench program machine. program ≡ bench.program };
 
+    ghost back = { λ bench machine. Unit {0} };
+
     ghost over = { λ bench. Unit {0} };
 
     ghost lacks = { λ bench. Unit {0} };

@@ -5,5 +5,6 @@ mod Handing
 mod HubCrossing
 mod Leaving
 mod MarkSteps
+mod Picking
 mod Sending
 mod Writing

@@ -50,6 +50,10 @@ FindsNothing old r new = (r ≡ Ok found.Over) × (new ≡ old)
 abbrev pub HaveOneState : Held → Held → Type 0
 HaveOneState old new = (new.is_stopped ≡ old.is_stopped) × (new.is_done ≡ old.is_done) × (new.told ≡ old.told)
 
+-- the workers are to stop; the rest is as before
+abbrev pub IsStoppedAt : Held → Held → Type 0
+IsStoppedAt old new = (new.is_stopped ≡ true) × (new.is_done ≡ old.is_done) × (new.told ≡ old.told)
+
 -- What the watcher is told of the report of this number: the hub's own; or that the hub has none of that number, and whether the workers
 -- have ended.
 abbrev pub TellsReport : Held → ℕ → Told → Type 0

@@ -27,6 +27,9 @@ pub trait Desk {
     /// Whether it may hand out a slice of this program that begins with this machine.
     ghost hands: { Self → List (PlainItem ℕ) → PlainMachine → Type 0 };
 
+    /// Whether a slice that began with this machine was given back to it.
+    ghost back: { Self → PlainMachine → Type 0 };
+
     /// Whether it has said that there is nothing more to hand out.
     ghost over: { Self → Type 0 };
 
@@ -52,7 +55,8 @@ pub trait Desk {
     /// # Errors
     /// A slice that began with a machine that no running thread has any more; or out of memory. The slice comes back.
     fn give<R: Wait>(&self, rt: &R, alloc: Global, ran: Ran) -> Result<(), GiveFault>
-        requires { hands self.now ran.program ran.start };
+        requires { hands self.now ran.program ran.start }
+        ensures { back self.now ran.start };
 
     /// Takes a slice back that it handed out, as [`Desk::give`] does, and says what there is to do next, as [`Desk::next`] does. A slice that
     /// is refused as a stranger is dropped. It may wait.
@@ -71,6 +75,7 @@ pub trait Desk {
         ensures hands { IfOk result (λ job. IfSome job (λ j. hands self.now j.0 j.1)) }
         ensures over { IfOk result (λ job. IfNone job (over self.now)) }
         ensures lacks { OnErr result (WantedMemory (lacks self.now) (hands self.now)) }
+        ensures back { back self.now ran.start }
     {
         match self.give(rt, alloc, ran) {
             Ok(()) => {}

@@ -4,11 +4,13 @@ ghost use Rattle.std.specs.Prelude.{◌≡◌, ◌↔◌, ℕ, List, Option, tru
 ghost use Rattle.cml_stream.specs.Streams.{stream, Takes};
 ghost use Rattle.cml_work.specs.Marks.{BeginsWith};
 ghost use Rattle.cml_work.specs.Seen.{texts_of, IsSentOut, IsWatched, FaultWrites, failed_at, failed_watching, failed_with, failed_after_all};
-ghost use Rattle.cml_work.specs.Works.{IsWorked, GoesOnFrom, IsForeignFault, IsLeft, IsCut, BreaksAfter};
+ghost use Rattle.cml_work.specs.{Picks.{Picker, ChoosesBy, TakenBy, picker, hub_of_end, hub_of_watched}, Works.{PlainOpening, IsWorked, GoesOnFrom, IsForeignFault, IsLeft, IsCut, BreaksAfter}};
 
 use crate::fault::{WatchFault, WorkFault};
+use crate::locked::leads;
 use crate::reports::send_reports;
 use crate::started::Started;
+use cml_hub::law::what_is_played_is_picked;
 use cml_hub::{Chooser, Hub};
 use cml_schedule::Report;
 use cml_stream::Counting;
@@ -27,10 +29,14 @@ pub(crate) fn end_alone<C: Chooser + Drop>(
     ensures ok { IfOk result (λ new. IsWorked hub new × BeginsWith new.reports hub.reports) }
     ensures err { IfErr result (λ new. GoesOnFrom hub new × BeginsWith new.reports hub.reports) }
     ensures stopped { is_stopped ≡ true → result ≡ Err hub }
+    ensures chosen { (o : PlainOpening) (picks : Picker) → ChoosesBy o picks hub (picker (record { picks = C.picks; next = C.next }) chooser) is_stopped
+        → TakenBy o picks (hub_of_end result) }
 {
     if is_stopped {
         return Err(hub);
     }
+    leads(&hub);
+    what_is_played_is_picked::<C>();
     match hub.run_alone(alloc, &mut chooser) {
         Ok(_) => Ok(hub),
         Err(_) => Err(hub),
@@ -134,6 +140,8 @@ fn left<C: Chooser + Drop, W: Write>(
     writer: &mut Counting<'_, W>,
 ) -> Result<(Hub, Vec<Report>), WorkFault>
     requires { BeginsWith hub.reports seen.items }
+    ensures chosen { (o : PlainOpening) (picks : Picker) → ChoosesBy o picks hub (picker (record { picks = C.picks; next = C.next }) chooser) is_stopped
+        → TakenBy o picks (hub_of_watched result) }
     ensures ok { IfOk result (λ r. IsWorked hub r.0 × (r.1.items ≡ seen.items) × (seen.items ≡ r.0.reports)) }
     ensures err { IfErr result (λ fault. IsLeft hub seen.items fault) }
     ensures written { (start : Option (List ℕ)) → Takes (stream start (W.contents writer.old.stream.now)) (texts_of seen.items)
@@ -169,6 +177,8 @@ pub(crate) fn finished<C: Chooser + Drop, W: Write>(
     writer: &mut Counting<'_, W>,
 ) -> Result<(Hub, Vec<Report>), WorkFault>
     requires { BeginsWith hub.reports seen.items }
+    ensures chosen { (o : PlainOpening) (picks : Picker) → ChoosesBy o picks hub (picker (record { picks = C.picks; next = C.next }) chooser) is_stopped
+        → TakenBy o picks (hub_of_watched result) }
     ensures works { IfOk result (λ r. IsWorked hub r.0 × (r.1.items ≡ r.0.reports)) }
     ensures fails { IfErr result (λ fault. BreaksAfter hub is_still fault) }
     ensures written { (start : Option (List ℕ)) → IsWatched (stream start (W.contents writer.old.stream.now)) seen.items fault

@@ -1,14 +1,17 @@
 //! What lies under the lock.
 
-ghost use Rattle.std.specs.Prelude.{◌≡◌, ◌≢◌, ◌↔◌, ◌<◌, [], IfOk, OnErr, IsTrue, true, false, length};
-ghost use Rattle.cml_hub.specs.Kept.{TakesSlice, NoneOut};
+ghost use Rattle.std.specs.Prelude.{◌≡◌, ◌≢◌, ◌↔◌, ◌<◌, [], Some, IfOk, OnOk, OnErr, IsTrue, true, false, length};
+ghost use Rattle.cml_hub.specs.{Courses.{run_of}, Kept.{TakesSlice, NoneOut}, Runs.{stands}};
+ghost use Rattle.cml_step.specs.Calls.{text_of};
 ghost use Rattle.cml_work.specs.Finds.{RunsHere, RunsHereOrNot, TakesOnce, LooksOnce, FindsNothing, HaveOneState, TellsReport};
 ghost use Rattle.cml_work.specs.{Marks.{BeginsWith, IsKeeper, WasShown, shown_of}, Works.{OpenedBy, GoesOnFrom, IsJob, opening_of}};
+ghost use Rattle.cml_work.specs.{Finds.{IsStoppedAt}, Picks.{ChoosesBy, PicksOn, PicksSome, picker}};
 
 use crate::marks::{Board, Mark, learn, show};
 use crate::opening::Opening;
 use crate::waiters::{Waiters, turns_after};
 use cml_check::Prog;
+use cml_hub::law::what_is_played_is_picked;
 use cml_hub::{Chooser, GiveFault, Hub, Next};
 use cml_schedule::Report;
 use cml_step::{Machine, Ran};
@@ -19,9 +22,10 @@ use std::sync::Wait;
 // How many steps of the budget turns in place use before the lock is let go.
 const BURST: u32 = 4096;
 
-// What lies under the lock: a hub that goes on from the opening; the chooser of its rows; whether the workers are to stop, and whether all
-// have ended; of how many reports the watcher was told; the workers that wait; and the lock's own mark (`keeper`), which knows a prefix of the
-// hub's reports that has all that the watcher was shown.
+// What lies under the lock: a hub that goes on from the opening; the chooser of its rows, which picked each row that was taken, and is to
+// pick the next one, unless the workers are to stop; whether they are, and whether all have ended; of how many reports the watcher was
+// told; the workers that wait; and the lock's own mark (`keeper`), which knows a prefix of the hub's reports that has all that the
+// watcher was shown.
 #[derive(Drop)]
 pub(crate) struct Locked<O: Opening, C: Chooser + Drop> {
     hub: Hub,
@@ -35,7 +39,7 @@ pub(crate) struct Locked<O: Opening, C: Chooser + Drop> {
 }
 
 impl<O: Opening, C: Chooser + Drop> Model for Locked<O, C> {
-    ghost use Rattle.cml_work.specs.{Held.{Held, locked_code}, Marks.{BeginsWith, IsKeeper, known_of}, Works.{OpenedBy}};
+    ghost use Rattle.cml_work.specs.{Held.{Held, locked_code}, Marks.{BeginsWith, IsKeeper, known_of}, Picks.{ChoosesBy, picker}, Works.{OpenedBy}};
 
     ghost Value = { Held };
 
@@ -43,7 +47,8 @@ impl<O: Opening, C: Chooser + Drop> Model for Locked<O, C> {
 
     ghost view = { λ l. record { hub = l.hub; is_stopped = l.is_stopped; is_done = l.is_done; told = l.told } };
 
-    ghost invariant = { λ l. OpenedBy O.opening l.hub × IsKeeper O.board (known_of l.keeper) l.keeper × BeginsWith l.hub.reports (known_of l.keeper) };
+    ghost invariant = { λ l. OpenedBy O.opening l.hub × IsKeeper O.board (known_of l.keeper) l.keeper × BeginsWith l.hub.reports (known_of l.keeper)
+        × ChoosesBy O.opening O.picks l.hub (picker (record { picks = C.picks; next = C.next }) l.chooser) l.is_stopped };
 }
 
 // What a worker finds under the lock.
@@ -68,13 +73,25 @@ pub(crate) enum Told {
     Over,
 }
 
+// The schedule of the hub leads to where it stands.
+pub(crate) fn leads(hub: &Hub)
+    ensures { stands (text_of hub.now.course.program) hub.now.course.items ≡ Some (run_of hub.now.course) }
+{
+    // No effect: named here so that the prover knows what holds of it.
+    let _items = hub.schedule();
+}
+
 // What there is to do. The copy of the program is made first, so that no job is lost where there is no memory for it.
 fn take_job<C: Chooser>(alloc: Global, hub: &mut Hub, chooser: &mut C) -> Result<Found, AllocError>
     ensures job { IfOk result (λ found. IsJob hub.old.course.program found) }
     ensures takes { TakesOnce hub.old result hub.new }
     ensures goes_on { GoesOnFrom hub.old hub.new }
     ensures reports { BeginsWith hub.new.reports hub.old.reports }
+    ensures picks { OnOk result (PicksOn (record { picks = C.picks; next = C.next }) hub.old chooser.old hub.new chooser.new) }
+    ensures some { OnErr result (PicksSome (record { picks = C.picks; next = C.next }) hub.old chooser.old hub.new) }
 {
+    leads(hub);
+    what_is_played_is_picked::<C>();
     let program = hub.program().copy()?;
     match hub.take(alloc, chooser) {
         Ok(Next::Job(machine)) => Ok(Found::Job((program, machine))),
@@ -98,6 +115,7 @@ impl<O: Opening, C: Chooser + Drop> Locked<O, C> {
     pub(crate) fn new(hub: Hub, chooser: C, keeper: Mark) -> Locked<O, C>
         requires hub { opening_of hub ≡ O.opening }
         requires keeper { IsKeeper O.board [] keeper }
+        requires picks { O.picks ≡ picker (record { picks = C.picks; next = C.next }) chooser }
         ensures { result ≡ record { hub = hub; is_stopped = false; is_done = false; told = 0 } }
     {
         Locked {
@@ -117,6 +135,7 @@ impl<O: Opening, C: Chooser + Drop> Locked<O, C> {
         ensures follows { OpenedBy O.opening result.0 }
         ensures hub { result.0 ≡ self.hub }
         ensures stopped { result.2 ≡ self.is_stopped }
+        ensures chooses { ChoosesBy O.opening O.picks result.0 (picker (record { picks = C.picks; next = C.next }) result.1) result.2 }
     {
         let Locked {
             hub,
@@ -131,17 +150,21 @@ impl<O: Opening, C: Chooser + Drop> Locked<O, C> {
         (hub, chooser, is_stopped)
     }
 
-    // What there is to do, unless the workers are to stop: what the hub's `take` hands out.
+    // What there is to do, unless the workers are to stop: what the hub's `take` hands out. Where memory runs out they are to stop, since the
+    // chooser may have picked a row that was not taken.
     pub(crate) fn find(&mut self, alloc: Global) -> Result<Found, AllocError>
         ensures job { IfOk result (λ found. IsJob O.opening.program found) }
-        ensures flags { HaveOneState self.old self.new }
+        ensures flags { OnOk result (HaveOneState self.old self.new) }
+        ensures lost { OnErr result (IsStoppedAt self.old self.new) }
         ensures stopped { self.old.is_stopped ≡ true → FindsNothing self.old.hub result self.new.hub }
         ensures finds { self.old.is_stopped ≡ false → TakesOnce self.old.hub result self.new.hub }
     {
         if self.is_stopped {
             return Ok(Found::Over);
         }
-        take_job(alloc, &mut self.hub, &mut self.chooser)
+        let answer = take_job(alloc, &mut self.hub, &mut self.chooser);
+        self.is_stopped = answer.is_err();
+        answer
     }
 
     // Takes back a slice of the program, as the hub's `give` does. The program is not compared.
@@ -167,16 +190,21 @@ impl<O: Opening, C: Chooser + Drop> Locked<O, C> {
     fn is_alone(&self) -> bool
         ensures none_out { IsTrue result → NoneOut self.now.hub }
         ensures stopped { self.now.is_stopped ≡ true → result ≡ false }
+        ensures going { IsTrue result → self.now.is_stopped ≡ false }
     {
         !self.is_stopped && !self.waiters.are_wanted() && !self.hub.has_out()
     }
 
     // Runs turns in place, until about 4,000 steps of the budget are used.
     fn run_here(&mut self, alloc: Global) -> Result<(), AllocError>
-        requires { NoneOut self.old.hub }
-        ensures flags { HaveOneState self.old self.new }
+        requires none_out { NoneOut self.old.hub }
+        requires going { self.old.is_stopped ≡ false }
+        ensures flags { OnOk result (HaveOneState self.old self.new) }
+        ensures lost { OnErr result (IsStoppedAt self.old self.new) }
         ensures runs { RunsHere self.old.hub self.new.hub }
     {
+        leads(&self.hub);
+        what_is_played_is_picked::<C>();
         let used = self.hub.used();
         let items = self.hub.schedule().len();
         let answer = self.hub.run_on(alloc, &mut self.chooser, BURST);
@@ -184,12 +212,14 @@ impl<O: Opening, C: Chooser + Drop> Locked<O, C> {
             self.hub.used().saturating_sub(used),
             turns_after(self.hub.schedule(), items),
         );
+        self.is_stopped = answer.is_err();
         answer
     }
 
     // The same where slices are short and none is out; else nothing.
     fn run_short(&mut self, alloc: Global) -> Result<(), AllocError>
-        ensures flags { HaveOneState self.old self.new }
+        ensures flags { OnOk result (HaveOneState self.old self.new) }
+        ensures lost { OnErr result (IsStoppedAt self.old self.new) }
         ensures well { self.old.is_stopped ≡ true → OnErr result ⊥ }
         ensures stopped { self.old.is_stopped ≡ true → self.new.hub ≡ self.old.hub }
         ensures runs { RunsHereOrNot self.old.hub self.new.hub }
@@ -204,7 +234,8 @@ impl<O: Opening, C: Chooser + Drop> Locked<O, C> {
     // is ready; where none is out, it runs turns in place first. Then it finds what `find` finds.
     pub(crate) fn look(&mut self, alloc: Global) -> Result<Found, AllocError>
         ensures job { IfOk result (λ found. IsJob O.opening.program found) }
-        ensures flags { HaveOneState self.old self.new }
+        ensures flags { OnOk result (HaveOneState self.old self.new) }
+        ensures lost { OnErr result (IsStoppedAt self.old self.new) }
         ensures stopped { self.old.is_stopped ≡ true → FindsNothing self.old.hub result self.new.hub }
         ensures looks { self.old.is_stopped ≡ false → LooksOnce self.old.hub result self.new.hub }
     {

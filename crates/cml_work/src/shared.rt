@@ -2,7 +2,7 @@
 
 ghost use Rattle.std.specs.Prelude.{◌≡◌, [], Some, IfOk, IfSome, slice_get};
 ghost use Rattle.cml_hub.specs.Dones.{GoesOn};
-ghost use Rattle.cml_work.specs.{Marks.{BeginsWith, IsKeeper, WasShown, shown_of}, Works.{OpenedBy, opening_of}};
+ghost use Rattle.cml_work.specs.{Marks.{BeginsWith, IsKeeper, WasShown, shown_of}, Picks.{ChoosesBy, picker}, Works.{OpenedBy, opening_of}};
 
 use crate::desk::{Desk, refused};
 use crate::locked::{Found, Locked, Told};
@@ -15,13 +15,13 @@ use cml_step::{Machine, Ran};
 use std::alloc::{AllocError, Global};
 use std::sync::{Condvar, Mutex, MutexGuard, Wait};
 
-/// A hub under a lock, from which workers take slices and a watcher the reports. It goes on from the opening.
-///
-/// A worker waits only where, under the lock, a slice of another is out. Who holds that slice comes back for the next one, or stops all
-/// workers, or finds that all is over; the last two wake all. So whichever thread becomes ready, there is one who looks for it, and to wake
-/// a worker serves only to have more of them at work. (No contract promises that a worker is served.)
+// A hub under a lock, from which workers take slices and a watcher the reports. It goes on from the opening.
+//
+// A worker waits only where, under the lock, a slice of another is out. Who holds that slice comes back for the next one, or stops all
+// workers, or finds that all is over; the last two wake all. So whichever thread becomes ready, there is one who looks for it, and to wake
+// a worker serves only to have more of them at work. (No contract promises that a worker is served.)
 #[derive(Drop)]
-pub struct Shared<O: Opening, C: Chooser + Drop> {
+pub(crate) struct Shared<O: Opening, C: Chooser + Drop> {
     locked: Mutex<Locked<O, C>>,
     workers: Condvar,
     watcher: Condvar,
@@ -30,11 +30,12 @@ pub struct Shared<O: Opening, C: Chooser + Drop> {
 }
 
 impl<O: Opening, C: Chooser + Drop> Shared<O, C> {
-    /// The hub, with the chooser among its rows, and a board with its keeper's mark.
-    pub fn new(hub: Hub, chooser: C, board: Board, keeper: Mark) -> Shared<O, C>
+    // The hub, with the chooser among its rows, and a board with its keeper's mark.
+    pub(crate) fn new(hub: Hub, chooser: C, board: Board, keeper: Mark) -> Shared<O, C>
         requires hub { opening_of hub ≡ O.opening }
         requires board { board.table.shared.table_id ≡ O.board }
         requires keeper { IsKeeper O.board [] keeper }
+        requires picks { O.picks ≡ picker (record { picks = C.picks; next = C.next }) chooser }
     {
         Shared {
             locked: Mutex::new(Locked::new(hub, chooser, keeper)),
@@ -46,7 +47,8 @@ impl<O: Opening, C: Chooser + Drop> Shared<O, C> {
 
     // The hub, the chooser, and whether the workers were stopped.
     pub(crate) fn into_parts(self) -> (Hub, C, bool)
-        ensures { OpenedBy O.opening result.0 }
+        ensures follows { OpenedBy O.opening result.0 }
+        ensures chooses { ChoosesBy O.opening O.picks result.0 (picker (record { picks = C.picks; next = C.next }) result.1) result.2 }
     {
         let Shared {
             locked,
@@ -62,6 +64,7 @@ impl<O: Opening, C: Chooser + Drop> Shared<O, C> {
         requires { WasShown O.board (shown_of mark) mark }
         ensures follows { OpenedBy O.opening result.0 }
         ensures shown { BeginsWith result.0.reports (shown_of mark) }
+        ensures chooses { ChoosesBy O.opening O.picks result.0 (picker (record { picks = C.picks; next = C.next }) result.1) result.2 }
     {
         let Shared {
             locked,
@@ -169,6 +172,8 @@ impl<O: Opening, C: Chooser + Drop> Desk for Shared<O, C> {
     ghost hands = { λ shared program machine. (program ≡ O.opening.program) × GoesOn program machine };
 
     // No fact that lasts shows what was said under the lock: it is said where the lock's value is lent.
+    ghost back = { λ shared machine. Unit {0} };
+
     ghost over = { λ shared. Unit {0} };
 
     ghost lacks = { λ shared. Unit {0} };

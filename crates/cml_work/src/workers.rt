@@ -5,6 +5,7 @@ ghost use Rattle.cml_hub.specs.Kept.{NoneOut};
 ghost use Rattle.cml_stream.specs.Streams.{stream, Takes};
 ghost use Rattle.cml_work.specs.Marks.{BeginsWith, IsKeeper, WasShown, shown_of};
 ghost use Rattle.cml_work.specs.Seen.{texts_of, IsWatched, FaultWrites, failed_watching, failed_after_all};
+ghost use Rattle.cml_work.specs.Picks.{PicksRows, TakenBy, picker, hub_of_run, hub_of_end, hub_of_watched};
 ghost use Rattle.cml_work.specs.Works.{Works, IsWorkerCount, IsWorked, GoesOnFrom, WatchBreaks, WatchFails, opening_of};
 
 use crate::desk::Gate;
@@ -81,6 +82,8 @@ where
     requires hub { opening_of hub ≡ O.opening }
     requires board { board.table.shared.table_id ≡ O.board }
     requires keeper { IsKeeper O.board [] keeper }
+    requires picks { O.picks ≡ picker (record { picks = C.picks; next = C.next }) chooser }
+    ensures chosen { TakenBy O.opening O.picks (hub_of_end result) }
     ensures ok { IfOk result (λ new. IsWorked hub new) }
     ensures err { IfErr result (λ new. GoesOnFrom hub new) }
 {
@@ -90,8 +93,9 @@ where
     end_alone(alloc, hub, chooser, is_stopped)
 }
 
-/// Runs the hub, of which no slice is out, with this many workers, 1 to 64, until nothing is left to do or the budget is used. Which
-/// rows are taken depends on who comes first to the lock. Where no thread can be started it runs alone.
+/// Runs the hub, of which no slice is out, with this many workers, 1 to 64, until nothing is left to do or the budget is used. The chooser
+/// picks each row that is taken, where it is taken; what can be taken then depends on who comes first to the lock. Where no thread can be
+/// started it runs alone.
 ///
 /// # Errors
 /// Another number of workers; or out of memory. Both hand over a hub.
@@ -108,7 +112,8 @@ where
     C: Chooser + Drop + Send,
     G: Gate + Sync,
     requires { NoneOut hub }
-    ensures { Works hub workers result }
+    ensures works { Works hub workers result }
+    ensures picks { PicksRows (record { picks = C.picks; next = C.next }) chooser hub (hub_of_run result) }
 {
     if !is_count(workers) {
         return Err(WorkFault::Count(hub));
@@ -185,6 +190,8 @@ where
     requires hub { opening_of hub ≡ O.opening }
     requires board { board.table.shared.table_id ≡ O.board }
     requires keeper { IsKeeper O.board [] keeper }
+    requires picks { O.picks ≡ picker (record { picks = C.picks; next = C.next }) chooser }
+    ensures chosen { TakenBy O.opening O.picks (hub_of_watched result) }
     ensures works { IfOk result (λ r. IsWorked hub r.0 × (r.1.items ≡ r.0.reports)) }
     ensures fails { IfErr result (λ fault. WatchBreaks hub fault) }
     ensures written { let output = stream (W.contents writer.old.stream.now) (W.contents writer.new.stream.now) in
@@ -225,6 +232,7 @@ where
     G: Gate + Sync,
     W: Write + Send,
     requires { NoneOut hub }
+    ensures picks { PicksRows (record { picks = C.picks; next = C.next }) chooser hub (hub_of_watched result) }
     ensures works { IfOk result (λ r. IsWorkerCount workers × IsWorked hub r.0 × (r.1.items ≡ r.0.reports)) }
     ensures fails { IfErr result (λ fault. WatchFails hub workers fault) }
     ensures written { let output = stream (W.contents writer.old.stream.now) (W.contents writer.new.stream.now) in

@@ -35,6 +35,7 @@ fn work_once<R: Wait, D: Desk, G: Gate>(
     ensures hands { IfOk result (λ next. IfSome next (λ j. D.hands desk.now j.0 j.1)) }
     ensures over { IfOk result (λ next. IfNone next (D.over desk.now)) }
     ensures lacks { OnErr result (WantedMemory (D.lacks desk.now) (D.hands desk.now)) }
+    ensures back { OnOk result (D.back desk.now job.1) }
 {
     let _ = gate;
     let (program, machine) = job;

@@ -1,4 +1,7 @@
-use Rattle.std.proofs.Common.{rules, List, ◌++◌, ap, sym}
+use Rattle.std.proofs.Common.{rules, List, ◌++◌, ap, sym, subst, false}
+use Rattle.cml_hub.specs.Kept.{Kept}
+use Rattle.cml_work.specs.Picks.{PicksRows}
+use Rattle.cml_work.proofs.Picking.{picks_none, rows_of, cut_hub}
 use Rattle.std.proofs.lemmas.Result.{IfErr-weaker}
 use Rattle.cml_schedule.specs.Reports.{PlainReport}
 use Rattle.cml_work.specs.Works.{IsWorkerCount}
@@ -23,3 +26,15 @@ pub returns-clause-fails : goal.returns-clause-fails
 returns-clause-fails g c =
     let count : IsWorkerCount c.args.workers = search rules in
     IfErr-weaker c.watch_over.result _ _ (λ fault h. breaks_fail c.args.hub c.args.workers fault count h) c.watch_over.ensures.fails
+
+pub returns-then-not-is_count-clause-picks : goal.returns-then-not-is_count-clause-picks
+returns-then-not-is_count-clause-picks g c = (picks_none (record { picks = g.C.Chooser.picks; next = g.C.Chooser.next }) c.args.hub c.args.chooser).picks.rows
+
+pub returns-in_default-clause-picks : goal.returns-in_default-clause-picks
+returns-in_default-clause-picks g c =
+    subst (λ (x : Kept). PicksRows (record { picks = g.C.Chooser.picks; next = g.C.Chooser.next }) c.args.chooser c.args.hub x)
+    (sym (cut_hub c.args.hub false c.out_of_memory.result c.out_of_memory.ensures.cut_off))
+    (picks_none (record { picks = g.C.Chooser.picks; next = g.C.Chooser.next }) c.args.hub c.args.chooser).picks.rows
+
+pub returns-clause-picks : goal.returns-clause-picks
+returns-clause-picks g c = rows_of (record { picks = g.C.Chooser.picks; next = g.C.Chooser.next }) c.args.chooser c.args.hub _ c.watch_over.ensures.chosen

@@ -29,3 +29,6 @@ returns-clause-written_err g c = c.finished.ensures.written_err _ c.watched-watc
 
 pub returns-clause-failed : goal.returns-clause-failed
 returns-clause-failed g c = c.finished.ensures.failed _ c.watched-watched.ensures.failed
+
+pub returns-clause-chosen : goal.returns-clause-chosen
+returns-clause-chosen g c = c.finished.ensures.chosen _ _ c.into_parts_with-hub.ensures.chooses
