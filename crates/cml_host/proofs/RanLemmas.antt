@@ -6,9 +6,9 @@ use Rattle.cml_host.specs.Chosen.{by_first, by_words}
 use Rattle.cml_hub.specs.Courses.{run_of}
 use Rattle.cml_hub.specs.Kept.{Kept, IsAtStart, SwapsAreExchanges, TellsSwaps}
 use Rattle.cml_hub.proofs.Going.{each_from}
-use Rattle.cml_hub.specs.Playing.{Rules, Played, played, playing, called_back}
+use Rattle.cml_hub.specs.Playing.{Rules, Played, played, playing, called_back, PlaysSoFar}
 use Rattle.cml_hub.proofs.Played.{begins_run}
-use Rattle.cml_hub.specs.Runs.{over, stands}
+use Rattle.cml_hub.specs.Runs.{Run, over, stands}
 use Rattle.cml_judge.specs.Stops.{IsStoppedThere, IsToldUpTo}
 use Rattle.cml_properties.specs.declared.property.Property.{Property}
 use Rattle.cml_step.specs.Calls.{text_of}
@@ -25,7 +25,7 @@ use Rattle.cml_host.specs.declared.workers.Stopped.{Stopped}
 use Rattle.cml_host.specs.Closed.{PlainAsked}
 use Rattle.cml_host.specs.Replies.{IsCarriedOut, Moment, Passage, PlainReply, Replies, behind, plain_of, plain_refusal, plain_reply, runs_out, since, upto}
 use Rattle.cml_host.specs.Running.{AreToldBy, BegunOutcome, EndsTold, HasEnded, IsChosen, IsEnded, IsEndReply, IsRunBy, IsRunReply, IsStopped, IsTold}
-use Rattle.cml_host.specs.Running.{MemoryRanOut, PlainSaving, Plays, PlaysChosen, ProgramOutcome}
+use Rattle.cml_host.specs.Running.{IsPartBy, IsPartChosen, MemoryRanOut, PlainSaving, Plays, PlaysChosen, PlaysPart, ProgramOutcome}
 use Rattle.cml_host.specs.Running.{RunsSo, ScriptOutcome, SomehowOutcome, failed_by, run_asked, saving_of, stop_reply}
 use Rattle.cml_host.specs.Orders.{order_said}
 use Rattle.cml_explore.specs.declared.seed.order.Order.{Order}
@@ -59,6 +59,36 @@ chosen_from : (p : List (PlainItem ℕ)) (budget : ℕ) (seed watch : Option ℕ
     IsChosen p budget seed h.course.items (run_of h.course)
 chosen_from p budget None watch begun h begins leads plays = (plays.0, played_from by_first plays.0 p budget watch begun h begins leads plays.1)
 chosen_from p budget (Some seed) watch begun h begins leads plays = played_from by_words (seeded seed) p budget watch begun h begins leads plays
+
+-- so is a part of it
+part_from : {C : Type 0} (rules : Rules C) (chooser : C) (p : List (PlainItem ℕ)) (budget : ℕ) (watch : Option ℕ) (begun h : Kept) →
+    IsAtStart p budget watch begun → stands (text_of begun.course.program) begun.course.items ≡ Some (run_of begun.course) → PlaysSoFar rules begun chooser h →
+    IsPartBy p budget rules chooser h.course.items (run_of h.course)
+part_from rules chooser p budget watch begun h begins leads (inl on) =
+    let at = begins_run begun chooser p budget watch begins leads in
+    let by = subst (λ (q : List (PlainItem ℕ)). playing h on.last ≡ played (text_of q) begun.budget rules on.items (called_back begun chooser)) begins.program on.plays in
+    let under = subst (λ (n : ℕ). playing h on.last ≡ played (text_of p) n rules on.items (called_back begun chooser)) begins.budget_is by in
+    let out = subst (λ (g : Played _). playing h on.last ≡ played (text_of p) budget rules on.items g) at under in
+    (on.items, (ap (λ (g : Played _). g.items) out, ap (λ (g : Played _). g.run) out))
+part_from rules chooser p budget watch begun h begins leads (inr same) =
+    let at = begins_run begun chooser p budget watch begins leads in (
+      0,
+      (
+        ap (λ (k : Kept). k.course.items) same ∙ ap (λ (g : Played _). g.items) at,
+        ap (λ (k : Kept). run_of k.course) same ∙ ap (λ (g : Played _). g.run) at,
+      ),
+    )
+
+part_chosen : (p : List (PlainItem ℕ)) (budget : ℕ) (seed watch : Option ℕ) (begun h : Kept) → IsAtStart p budget watch begun →
+    stands (text_of begun.course.program) begun.course.items ≡ Some (run_of begun.course) → PlaysPart seed begun h →
+    IsPartChosen p budget seed h.course.items (run_of h.course)
+part_chosen p budget None watch begun h begins leads plays = (plays.0, part_from by_first plays.0 p budget watch begun h begins leads plays.1)
+part_chosen p budget (Some seed) watch begun h begins leads plays = part_from by_words (seeded seed) p budget watch begun h begins leads plays
+
+-- the whole run is a part of itself
+whole_part : (p : List (PlainItem ℕ)) (budget : ℕ) (seed : Option ℕ) (items : List Item) (r : Run) → IsChosen p budget seed items r → IsPartChosen p budget seed items r
+whole_part p budget None items r is = (is.0, (budget, is.1))
+whole_part p budget (Some seed) items r is = (budget, is)
 
 -- ---- where a run is told
 
@@ -144,7 +174,11 @@ ended_ran asked saving p options begun h output errors mid store status begins l
                   (subst (λ (q : List (PlainItem ℕ)). EndsTold asked saving q h.course.items h.budget reply) program is),
               λ one. chosen_from p options.steps options.seed options.watch begun h begins leads (plays one),
             ))
-            (λ reply is. (told, subst (λ (q : List (PlainItem ℕ)). MemoryRanOut asked q h.course.items r reply) program is)),
+            (λ reply is. (
+              told,
+              subst (λ (q : List (PlainItem ℕ)). MemoryRanOut asked q h.course.items r reply) program is,
+              λ one. whole_part p options.steps options.seed h.course.items r (chosen_from p options.steps options.seed options.watch begun h begins leads (plays one)),
+            )),
         ended.2,
       ),
     )
@@ -155,7 +189,8 @@ ended_ran asked saving p options begun h output errors mid store status begins l
         × EndsTold asked saving p h.course.items options.steps reply
         × (options.workers ≡ 1 → IsChosen p options.steps options.seed h.course.items (run_of h.course))) →
         ((reply : PlainReply) → MemoryRanOut asked h.course.program h.course.items (run_of h.course) reply →
-        AreTold h.reports (upto mid errors) × MemoryRanOut asked p h.course.items (run_of h.course) reply) →
+        AreTold h.reports (upto mid errors) × MemoryRanOut asked p h.course.items (run_of h.course) reply
+        × (options.workers ≡ 1 → IsPartChosen p options.steps options.seed h.course.items (run_of h.course))) →
         IsRunReply asked saving p options h.course.items h.reports (run_of h.course) (upto mid errors) reply
     so reply (inl is) over ran_out = inl (over reply is)
     so reply (inr is) over ran_out = inr (inl (ran_out reply is))
@@ -163,10 +198,11 @@ ended_ran asked saving p options begun h output errors mid store status begins l
 -- why it was stopped was told, behind what was written of its reports
 pub stopped_ran : (asked : PlainAsked) (saving : PlainSaving) (p : List (PlainItem ℕ)) (options : RunOptions) (begun : Kept) (stopped : Stopped) (output errors : Passage) (mid : Moment)
     (store : Shelf) (status : ℕ) → IsAtStart p options.steps options.watch begun →
+    stands (text_of begun.course.program) begun.course.items ≡ Some (run_of begun.course) → (options.workers ≡ 1 → PlaysPart options.seed begun stopped.hub) →
     IsStopped options begun stopped (counted_stream errors.old.bytes mid.bytes mid.calls mid.failed) →
     IsRunOf stopped.hub.course.program stopped.hub.watch stopped.hub.course.items stopped.hub.reports (run_of stopped.hub.course) →
     IsCarriedOut (stop_reply stopped.hub stopped.cause) output (since mid errors) store status → ProgramOutcome asked saving p options output errors store status
-stopped_ran asked saving p options begun stopped output errors mid store status begins stops run carried =
+stopped_ran asked saving p options begun stopped output errors mid store status begins leads plays stops run carried =
     let h = stopped.hub in
     let more = stops.0 in (
       h.course.items,
@@ -174,14 +210,21 @@ stopped_ran asked saving p options begun stopped output errors mid store status 
       run_of h.course,
       run_is p options.watch h.course.items h (more.program ∙ begins.program) (more.watch ∙ begins.watch_is) refl run,
       exchanged p options.steps options.watch begun h begins more,
-      (mid, stop_reply h stopped.cause, so stopped.cause stops.1 stops.2, carried),
+      (
+        mid,
+        stop_reply h stopped.cause,
+        so stopped.cause stops.1 stops.2
+            (λ one. part_chosen p options.steps options.seed options.watch begun h begins leads (plays one)),
+        carried,
+      ),
     )
   where
     so : (why : Cause) → AreToldBy options stopped.hub why (stream errors.old.bytes mid.bytes) → mid.failed ≡ failed_by why →
+        (options.workers ≡ 1 → IsPartChosen p options.steps options.seed stopped.hub.course.items (run_of stopped.hub.course)) →
         IsRunReply asked saving p options stopped.hub.course.items stopped.hub.reports (run_of stopped.hub.course) (upto mid errors) (stop_reply stopped.hub why)
-    so cause.Memory told failed = inr (inl ((told, failed), inl refl))
-    so cause.Write told failed = inr (inr (inl ((told, failed), refl)))
-    so cause.Foreign told failed = inr (inr (inr (told.0, (told.1.0, told.1.1, told.1.2, (told.1.3, failed)), refl)))
+    so cause.Memory told failed part = inr (inl ((told, failed), inl refl, part))
+    so cause.Write told failed part = inr (inr (inl ((told, failed), refl, part)))
+    so cause.Foreign told failed part = inr (inr (inr (told.0, (told.1.0, told.1.1, told.1.2, (told.1.3, failed)), refl)))
 
 -- the script was run, with the numbers of its servers
 pub opened_ran : (explains : Bool) (s : PlainScript) (properties : List Property) (options : RunOptions) (servers : List ℕ) (asked : PlainAsked) (saving : PlainSaving)

@@ -1,8 +1,9 @@
 -- How a hub was run: by one thread, or by workers.
-use Rattle.std.proofs.Common.{◌≡◌, ◌∙◌, ap, ℕ, List, [], Option, Some, None, Result, Err, refl, sym, subst}
+use Rattle.std.proofs.Common.{◌≡◌, ◌∙◌, ap, ℕ, List, [], Option, Some, None, Result, Ok, Err, OnOk, OnErr, inl, refl, sym, subst}
 use Rattle.std.proofs.KnownBytes.{Appends-nil}
 use Rattle.cml_check.specs.Syntax.{PlainItem}
 use Rattle.cml_hub.specs.Kept.{Kept, Continues, IsOver}
+use Rattle.cml_hub.specs.Playing.{Rules, PlaysOut, PlaysSoFar}
 use Rattle.cml_hub.specs.Runs.{Run}
 use Rattle.cml_hub.specs.declared.fault.End.{End}
 use Rattle.cml_schedule.specs.Reports.{PlainReport}
@@ -88,3 +89,9 @@ stopped_live A answer options hub f stopped a b was calls failed live count fail
     let all = live_fault A options hub f a b was failed live count fails writes none is in
     subst (λ (h : Kept). GoesOnFrom hub h × AreToldBy options h stopped.cause (stream a b) × (failed ≡ failed_by stopped.cause)) (sym same_hub)
     (subst (λ (why : Cause). GoesOnFrom hub (hub_of f) × AreToldBy options (hub_of f) why (stream a b) × (failed ≡ failed_by why)) (sym same_cause) all)
+
+-- a run that has come to its end has come so far
+pub ended_so_far : {A E C : Type 0} (r : Result A E) (rules : Rules C) (h new : Kept) (c last : C) → OnOk r (PlaysOut rules h c new last) →
+    OnErr r (PlaysSoFar rules h c new) → PlaysSoFar rules h c new
+ended_so_far (Ok x) rules h new c last out so_far = inl (record { items = h.budget; last = last; plays = out })
+ended_so_far (Err e) rules h new c last out so_far = so_far

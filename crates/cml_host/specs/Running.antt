@@ -5,7 +5,7 @@ use Rattle.cml_hub.specs.Choices.{seeded}
 use Rattle.cml_host.specs.Chosen.{by_first, by_words}
 use Rattle.cml_hub.specs.Courses.{run_of}
 use Rattle.cml_hub.specs.Kept.{Kept, SwapsAreExchanges}
-use Rattle.cml_hub.specs.Playing.{Rules, run_by, PlaysOut}
+use Rattle.cml_hub.specs.Playing.{Rules, run_by, played, begun_by, PlaysOut, PlaysSoFar}
 use Rattle.cml_hub.specs.Runs.{Run, over, stands}
 use Rattle.cml_judge.specs.Stops.{IsStoppedThere, IsToldUpTo}
 use Rattle.cml_properties.specs.declared.property.Property.{Property}
@@ -107,14 +107,25 @@ abbrev pub IsChosen : List (PlainItem ℕ) → ℕ → Option ℕ → List Item 
 IsChosen p budget None items r = (first : First) × IsRunBy p budget by_first first items r
 IsChosen p budget (Some seed) items r = IsRunBy p budget by_words (seeded seed) items r
 
+-- a part of that run, from its beginning on, has these items, and leads there
+abbrev pub IsPartBy : {C : Type 0} → List (PlainItem ℕ) → ℕ → Rules C → C → List Item → Run → Type 0
+IsPartBy p budget rules chooser items r =
+    (n : ℕ) × (let g = played (text_of p) budget rules n (begun_by (text_of p) chooser) in (items ≡ g.items) × (r ≡ g.run))
+
+-- the same of the run that is chosen
+abbrev pub IsPartChosen : List (PlainItem ℕ) → ℕ → Option ℕ → List Item → Run → Type 0
+IsPartChosen p budget None items r = (first : First) × IsPartBy p budget by_first first items r
+IsPartChosen p budget (Some seed) items r = IsPartBy p budget by_words (seeded seed) items r
+
 -- What is told of a run, behind what was written of its reports to these errors. It came to its end, and with one worker it is the run that the seed
--- chooses. Or memory ran out. Or a write of its reports failed; or those that were written are not its own.
+-- chooses. Or memory ran out, or a write of its reports failed; with one worker it is a part of that run, from its beginning on. Or the
+-- reports that were written are not its own.
 abbrev pub IsRunReply : PlainAsked → PlainSaving → List (PlainItem ℕ) → RunOptions → List Item → List PlainReport → Run → Passage → PlainReply → Type 0
 IsRunReply asked saving p options items reports r errors reply =
     (AreTold reports errors × HasEnded options.steps options.watch items reports r × EndsTold asked saving p items options.steps reply
     × (options.workers ≡ 1 → IsChosen p options.steps options.seed items r))
-    ⊎ (AreTold reports errors × MemoryRanOut asked p items r reply)
-    ⊎ (AreCut reports errors × (reply ≡ broken))
+    ⊎ (AreTold reports errors × MemoryRanOut asked p items r reply × (options.workers ≡ 1 → IsPartChosen p options.steps options.seed items r))
+    ⊎ (AreCut reports errors × (reply ≡ broken) × (options.workers ≡ 1 → IsPartChosen p options.steps options.seed items r))
     ⊎ (ReportsAreLive options × AreForeign reports errors × (reply ≡ refusal (line (codes "foreign hub")) 1))
 
 -- The program was run, and each row of two swaps that was taken is an exchange; and the run was told.
@@ -201,6 +212,11 @@ pub record Plays {C : Type 0} (rules : Rules C) (chooser : C) (hub new : Kept) :
 abbrev pub PlaysChosen : Option ℕ → Kept → Kept → Type 0
 PlaysChosen None hub new = (first : First) × Plays by_first first hub new
 PlaysChosen (Some seed) hub new = Plays by_words (seeded seed) hub new
+
+-- the hub has run alone so far, as the seed chooses
+abbrev pub PlaysPart : Option ℕ → Kept → Kept → Type 0
+PlaysPart None hub new = (first : First) × PlaysSoFar by_first hub first new
+PlaysPart (Some seed) hub new = PlaysSoFar by_words hub (seeded seed) new
 
 -- how many writes to the errors have failed where this is why
 abbrev pub failed_by : Cause → ℕ

@@ -1,8 +1,8 @@
 //! How a script's threads are run: one after another, or by workers side by side.
 
 ghost use Rattle.std.specs.Prelude.{◌≡◌, ◌≢◌, ◌<◌, [], None, IfOk, IfErr};
-ghost use Rattle.cml_hub.specs.Kept.{NoneOut};
-ghost use Rattle.cml_host.specs.{Between.{between}, Running.{HasRun, IsStopped, IsCounted, Plays, PlaysChosen, hub_of, cause_of}};
+ghost use Rattle.cml_hub.specs.{Kept.{NoneOut}, Playing.{PlaysSoFar}};
+ghost use Rattle.cml_host.specs.{Between.{between}, Running.{HasRun, IsStopped, IsCounted, Plays, PlaysChosen, PlaysPart, hub_of, cause_of}};
 ghost use Rattle.cml_host.specs.declared.workers.Cause.TheVariants.{Memory};
 ghost use Rattle.cml_work.specs.Works.{IsWorkerCount, IsWorked, GoesOnFrom};
 
@@ -87,6 +87,7 @@ where
     ensures err { let errors = between E.contents err.old err.new in
         IfErr result (λ stopped. IsStopped options.now hub stopped errors) }
     ensures chosen { options.now.workers ≡ 1 → IfOk result (λ new. PlaysChosen options.now.seed hub new) }
+    ensures so_far { options.now.workers ≡ 1 → IfErr result (λ stopped. PlaysPart options.now.seed hub stopped.hub) }
     ensures same_err { err.new.stream.ghost_name ≡ err.old.stream.ghost_name }
 {
     match options.seed {
@@ -119,6 +120,7 @@ where
     ensures err { let errors = between E.contents err.old err.new in
         IfErr result (λ stopped. IsStopped options.now hub stopped errors) }
     ensures plays { options.now.workers ≡ 1 → IfOk result (λ new. Plays (record { picks = C.picks; next = C.next }) chooser hub new) }
+    ensures so_far { options.now.workers ≡ 1 → IfErr result (λ stopped. PlaysSoFar (record { picks = C.picks; next = C.next }) hub chooser stopped.hub) }
     ensures same_err { err.new.stream.ghost_name ≡ err.old.stream.ghost_name }
 {
     if options.workers == 1 {
@@ -144,6 +146,7 @@ fn run_alone<C: Chooser + Drop, E: Write>(
     ensures err { let errors = between E.contents err.old err.new in
         IfErr result (λ stopped. IsStopped options.now hub stopped errors) }
     ensures plays { IfOk result (λ new. Plays (record { picks = C.picks; next = C.next }) chooser hub new) }
+    ensures so_far { IfErr result (λ stopped. PlaysSoFar (record { picks = C.picks; next = C.next }) hub chooser stopped.hub) }
     ensures same_err { err.new.stream.ghost_name ≡ err.old.stream.ghost_name }
 {
     let ended = hub.run_alone(alloc, &mut chooser);

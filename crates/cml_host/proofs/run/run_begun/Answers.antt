@@ -22,4 +22,4 @@ returns-in-Err-clause-ran g c =
     let mid = moment g.E.Write.contents c.run_hub.new.err in
     let store : Shelf = record { before = g.S.Store.holds c.args.store.now; after = g.S.Store.holds c.stop-status.new.store } in
     stopped_ran (plain_asked c.args.asked.now) (plain_saving c.args.saving.now) c.args.hub.course.program c.args.options.now c.args.hub c.in-Err.stopped output errors mid store
-    c.stop-status.result c.requires.begun c.in-Err.ensures.err c.hub_is_a_run-in-Err.ensures c.stop-status.ensures.told
+    c.stop-status.result c.requires.begun c.hub_is_a_run.ensures.leads c.in-Err.ensures.so_far c.in-Err.ensures.err c.hub_is_a_run-in-Err.ensures c.stop-status.ensures.told
