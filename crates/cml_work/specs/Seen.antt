@@ -14,6 +14,10 @@ use Rattle.cml_work.specs.declared.fault.WorkFault.TheVariants.{Count, Memory, S
 abbrev pub texts_of : List PlainReport → List ℕ
 texts_of reports = flat_map report_text reports
 
+-- the lines of some reports were written, the last of them perhaps not whole
+abbrev pub BreaksOff : Stream → Type 0
+BreaksOff output = (reports : List PlainReport) × TakesStart output (texts_of reports)
+
 -- how the writing of a text ends: it was written; or a write failed after a prefix of it
 abbrev pub IsSentOut : {A E : Type 0} → List ℕ → Result A E → Stream → Type 0
 IsSentOut text (Ok done) output = Takes output text

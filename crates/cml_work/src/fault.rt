@@ -6,12 +6,14 @@ use std::alloc::AllocError;
 use std::fmt;
 use thiserror::Error;
 
-// Why the watcher gave up.
-#[derive(Clone, Copy)]
-pub(crate) enum WatchFault {
-    // A write failed, or took nothing.
+/// Why the watcher gave up.
+#[derive(Clone, Copy, Debug, PartialEq, Eq, Error)]
+pub enum WatchFault {
+    /// A write failed, or took nothing.
+    #[error("a write of the reports failed")]
     Write,
-    // Out of memory.
+    /// Out of memory.
+    #[error("out of memory")]
     Memory,
 }
 

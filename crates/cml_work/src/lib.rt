@@ -17,7 +17,11 @@ mod workers;
 mod working;
 
 pub use desk::{Desk, Gate};
-pub use fault::WorkFault;
+pub use fault::{WatchFault, WorkFault};
+pub use marks::{Board, Mark, new_board};
+pub use opening::Opening;
 pub use reports::send_reports;
+pub use shared::Shared;
+pub use watching::watch;
 pub use workers::{run_watched, run_workers};
 pub use working::worker;

@@ -15,15 +15,15 @@ use std::collections::LinkedList;
 use std::marker::{Brand, PhantomData};
 use std::sync::Wait;
 
-// What a mark knows: the keeper all that was shown; and each what it was shown itself. No value of it is made.
-pub(crate) struct Known {
-    pub(crate) keeps: bool,
-    pub(crate) all: LinkedList<Report>,
-    pub(crate) shown: LinkedList<Report>,
+/// What a mark knows: the keeper all that was shown; and each what it was shown itself. No value of it is made.
+pub struct Known {
+    pub keeps: bool,
+    pub all: LinkedList<Report>,
+    pub shown: LinkedList<Report>,
 }
 
-// The rule of the marks.
-pub(crate) struct Grows;
+/// The rule of the marks.
+pub struct Grows;
 
 impl Protocol<[u64; 1], Known> for Grows {
     ghost use Rattle.std.specs.Prelude.{[]};
@@ -34,12 +34,12 @@ impl Protocol<[u64; 1], Known> for Grows {
     ghost first = { knower [] };
 }
 
-// What the list is now. It has no value at run time.
-pub(crate) trait Naming {
+/// What the list is now. It has no value at run time.
+pub trait Naming {
     ghost use Rattle.std.specs.Prelude.{List};
     ghost use Rattle.cml_schedule.specs.Reports.{PlainReport};
 
-    // The list.
+    /// The list.
     ghost list: { List PlainReport };
 }
 
@@ -50,7 +50,7 @@ impl Naming for Brand {
 }
 
 // The keeper learns what the list is now, and that it begins with what the mark that was taken in was shown.
-pub(crate) struct Learns<X: Naming> {
+pub struct Learns<X: Naming> {
     of: PhantomData<X>,
 }
 
@@ -61,7 +61,7 @@ impl<X: Naming> Outcome<[u64; 1], Known> for Learns<X> {
 }
 
 // The keeper takes a mark in; and gives out one that was shown all that it knows.
-pub(crate) struct All;
+pub struct All;
 
 impl Split<Known> for All {
     ghost use Rattle.cml_work.specs.Marks.{shown_all};
@@ -79,14 +79,14 @@ impl Join<Known> for All {
     ghost spent = { nobody };
 }
 
-// What ties the marks together: a cell of the toolchain's, made with a rule that each access to it keeps.
-pub(crate) type Board = RuledSeqCell<[u64; 1], Known, Grows, 1>;
+/// What ties the marks together: a cell of the toolchain's, made with a rule that each access to it keeps.
+pub type Board = RuledSeqCell<[u64; 1], Known, Grows, 1>;
 
-// What one thread was shown.
-pub(crate) type Mark = Pass<[u64; 1], Known>;
+/// What one thread was shown.
+pub type Mark = Pass<[u64; 1], Known>;
 
-// A board, with the mark of its keeper, who knows an empty list.
-pub(crate) fn new_board(alloc: Global) -> Result<(Board, Mark), AllocError>
+/// A board, with the mark of its keeper, who knows an empty list.
+pub fn new_board(alloc: Global) -> Result<(Board, Mark), AllocError>
     ensures { IfOk result (λ b. IsKeeper b.0.table.shared.table_id [] b.1) }
 {
     Board::ruled(alloc, [0])

@@ -5,16 +5,16 @@ ghost use Rattle.cml_work.specs.{Picks.{Picker}, Works.{PlainOpening}};
 
 use std::marker::Brand;
 
-// The hub with which a run of workers begins, by what stays of it to the end of the run. It has no value at run time: a run that begins
-// picks its own for `Brand`, and so the lock can promise that its hub goes on from that one.
-pub(crate) trait Opening {
-    // What stays.
+/// The hub with which a run of workers begins, by what stays of it to the end of the run. It has no value at run time: a run that begins
+/// picks its own for `Brand`, and so the lock can promise that its hub goes on from that one.
+pub trait Opening {
+    /// What stays.
     ghost opening: { PlainOpening };
 
-    // The board by which its reports are told.
+    /// The board by which its reports are told.
     ghost board: { TableId };
 
-    // What its chooser picks.
+    /// What its chooser picks.
     ghost picks: { Picker };
 }
 

@@ -15,13 +15,13 @@ use cml_step::{Machine, Ran};
 use std::alloc::{AllocError, Global};
 use std::sync::{Condvar, Mutex, MutexGuard, Wait};
 
-// A hub under a lock, from which workers take slices and a watcher the reports. It goes on from the opening.
-//
-// A worker waits only where, under the lock, a slice of another is out. Who holds that slice comes back for the next one, or stops all
-// workers, or finds that all is over; the last two wake all. So whichever thread becomes ready, there is one who looks for it, and to wake
-// a worker serves only to have more of them at work. (No contract promises that a worker is served.)
+/// A hub under a lock, from which workers take slices and a watcher the reports. It goes on from the opening.
+///
+/// A worker waits only where, under the lock, a slice of another is out. Who holds that slice comes back for the next one, or stops all
+/// workers, or finds that all is over; the last two wake all. So whichever thread becomes ready, there is one who looks for it, and to wake
+/// a worker serves only to have more of them at work. (No contract promises that a worker is served.) Only a run by workers makes one.
 #[derive(Drop)]
-pub(crate) struct Shared<O: Opening, C: Chooser + Drop> {
+pub struct Shared<O: Opening, C: Chooser + Drop> {
     locked: Mutex<Locked<O, C>>,
     workers: Condvar,
     watcher: Condvar,

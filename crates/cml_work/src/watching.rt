@@ -1,9 +1,9 @@
 //! The watcher.
 
-ghost use Rattle.std.specs.Prelude.{◌≡◌, Some};
+ghost use Rattle.std.specs.Prelude.{◌≡◌, Some, IfOk, OnErr};
 ghost use Rattle.cml_schedule.specs.Reports.{report_text};
-ghost use Rattle.cml_stream.specs.Streams.{stream};
-ghost use Rattle.cml_work.specs.{Marks.{BeginsWith, WasShown, shown_of}, Seen.{IsShownText, IsWatched, failed_after, failed_watching}};
+ghost use Rattle.cml_stream.specs.Streams.{stream, Takes};
+ghost use Rattle.cml_work.specs.{Marks.{BeginsWith, WasShown, shown_of}, Seen.{texts_of, BreaksOff, IsShownText, IsWatched, failed_after, failed_watching}};
 
 use crate::desk::Desk;
 use crate::fault::WatchFault;
@@ -56,7 +56,7 @@ fn broken_off(seen: Vec<Report>, fault: WatchFault, mark: Mark) -> Watched
     }
 }
 
-// Writes each report as it is made, until the workers have ended and all are written. It writes while it does not hold the lock.
+// Writes each report as it is made, until the workers have ended and all are written.
 fn watch_all<R: Wait, O: Opening, C: Chooser + Drop, W: Write>(
     rt: &R,
     alloc: Global,
@@ -122,4 +122,37 @@ pub(crate) fn watch_marked<R: Wait, O: Opening, C: Chooser + Drop, W: Write>(
         shared.stop(rt);
     }
     watched
+}
+
+/// Writes each report of the hub as soon as it is made, until the workers have ended and all are written, and returns what it wrote. It
+/// writes while it does not hold the lock.
+///
+/// # Errors
+/// A write that failed or took nothing; or out of memory. What was written are the lines of reports, and a prefix of those of one more.
+/// The workers are stopped then.
+pub fn watch<R: Wait, O: Opening, C: Chooser + Drop, W: Write>(
+    rt: &R,
+    alloc: Global,
+    shared: &Shared<O, C>,
+    writer: &mut Counting<'_, W>,
+) -> Result<Vec<Report>, WatchFault>
+    ensures ok { let output = stream (W.contents writer.old.stream.now) (W.contents writer.new.stream.now) in
+        IfOk result (λ seen. Takes output (texts_of seen.items)) }
+    ensures err { let output = stream (W.contents writer.old.stream.now) (W.contents writer.new.stream.now) in
+        OnErr result (BreaksOff output) }
+    ensures same_reference { writer.new.stream.ghost_name ≡ writer.old.stream.ghost_name }
+    ensures failed { writer.new.failed ≡ failed_after result writer.old.failed }
+{
+    let Watched {
+        seen,
+        fault,
+        mark: _,
+    } = watch_marked(rt, alloc, shared, writer);
+    match fault {
+        None => Ok(seen),
+        Some(fault) => {
+            drop(seen);
+            Err(fault)
+        }
+    }
 }
